@@ -1,0 +1,6 @@
+pub mod CountLaws
+pub mod LeastLaws
+pub mod ListTotals
+pub mod MemberLaws
+pub mod OntoMaps
+pub mod TotalLaws

@@ -1,0 +1,5 @@
+pub mod BitLaws
+pub mod LeastMembers
+pub mod Membership
+pub mod NumberSets
+pub mod Totals

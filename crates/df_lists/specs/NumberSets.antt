@@ -1,0 +1,33 @@
+-- Sets of numbers, written as increasing lists.
+use Rattle.std.specs.Prelude.{◌≡◌, ◌==◌, ℕ, ◌^◌, Bool, List, [], ◌∷◌, filter, sum_by, nat_lt, if◌then◌else◌}
+use Rattle.std.specs.List.{range_with_len, list_any}
+use Rattle.std.specs.Int.{bit_at}
+
+-- whether a number is a member
+abbrev pub has_member : List ℕ → ℕ → Bool
+has_member set p = list_any (λ q. q == p) set
+
+-- the list is the increasing list of its members, which lie below n
+abbrev pub IsSet : ℕ → List ℕ → Type 0
+IsSet n set = set ≡ filter (has_member set) (range_with_len 0 n)
+
+-- the increasing list of these numbers, as far as they lie below n
+abbrev pub set_of : ℕ → List ℕ → List ℕ
+set_of n numbers = filter (has_member numbers) (range_with_len 0 n)
+
+-- the set with one more member
+abbrev pub with_member : ℕ → List ℕ → List ℕ
+with_member p [] = p ∷ []
+with_member p (q ∷ qs) = if nat_lt p q then p ∷ q ∷ qs else (if p == q then q ∷ qs else q ∷ with_member p qs)
+
+-- whether the bit of a number is set
+abbrev pub is_set : ℕ → ℕ → Bool
+is_set bits i = bit_at bits i == 1
+
+-- the set that 128 bits keep: the places of the bits that are set
+unfoldable pub members : ℕ → List ℕ
+members bits = filter (is_set bits) (range_with_len 0 128)
+
+-- the bits that keep a set
+abbrev pub weight : List ℕ → ℕ
+weight set = sum_by (λ i. 2 ^ i) set
