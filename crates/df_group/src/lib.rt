@@ -1,0 +1,10 @@
+//! Products of cyclic groups: elements by their numbers, arithmetic place by place, units and subgroups.
+//! It stands on df_lists, for sets of numbers, and on arrayvec.
+//! The crates above see a `Shape` as its list of factors, an `Elem` as its number and a `Subgroup` as the increasing list of its members.
+#![tactic(auto)]
+
+mod shape;
+mod subgroup;
+
+pub use shape::{Elem, Shape, ShapeError};
+pub use subgroup::Subgroup;
