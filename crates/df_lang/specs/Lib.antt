@@ -1,0 +1,5 @@
+pub mod Balance
+pub mod Names
+pub mod Problems
+pub mod Stored
+pub mod Targets

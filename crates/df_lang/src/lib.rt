@@ -1,0 +1,10 @@
+//! Problems: what a source states of a group, its fixed points, its targets and its blocks, with the rules that each problem keeps.
+//! It stands on df_group for the group, on df_subsets for the blocks, and on indexmap for names in order of appearance.
+//! The crates above see a `Problem` as a record of numbers and lists, and cite its target and the balance of a list of blocks.
+#![tactic(auto)]
+
+mod parts;
+mod problem;
+
+pub use parts::{Inside, Kind, Member, Name, Which};
+pub use problem::Problem;
