@@ -1,0 +1,15 @@
+pub mod VectorFilters
+pub mod RowBounds
+pub mod RowTests
+pub mod EntryLaws
+pub mod CommonDivisors
+pub mod DecisionSplits
+pub mod NoSolutions
+pub mod SettledDecisions
+pub mod CutBounds
+pub mod EntryMeanings
+pub mod WalkSolutions
+pub mod RestSolutions
+pub mod WalkOrder
+pub mod DeadPaths
+pub mod WalkNodes
