@@ -13,3 +13,10 @@ pub mod RestSolutions
 pub mod WalkOrder
 pub mod DeadPaths
 pub mod WalkNodes
+pub mod WalkSteps
+pub mod PaddedPaths
+pub mod NodeVisits
+pub mod LogSoundness
+pub mod LogForms
+pub mod WalkLogs
+pub mod DecisionLaws
