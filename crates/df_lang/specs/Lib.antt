@@ -1,5 +1,10 @@
 pub mod Balance
 pub mod Names
 pub mod Problems
+pub mod Rules
+pub mod Sources
+pub mod StandsAbove
+pub mod Statements
 pub mod Stored
 pub mod Targets
+pub mod Values

@@ -3,8 +3,10 @@
 //! The crates above see a `Problem` as a record of numbers and lists, and cite its target and the balance of a list of blocks.
 #![tactic(auto)]
 
+mod fault;
 mod parts;
 mod problem;
 
+pub use fault::{Needed, ParseError, SourceError, SourceFault};
 pub use parts::{Inside, Kind, Member, Name, Which};
 pub use problem::Problem;

@@ -33,3 +33,21 @@ pub struct Inside {
     pub subgroup: Which,
     pub target: u32,
 }
+
+/// The word with which a statement begins.
+#[derive(Clone, Copy, Debug, PartialEq, Eq)]
+pub(crate) enum Word {
+    Group,
+    Fixed,
+    Subgroup,
+    Shift,
+    Mult,
+    Size,
+    Lambda,
+    Inside,
+    Hole,
+    Base,
+    Short,
+    Require,
+    Forbid,
+}

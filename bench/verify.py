@@ -1,0 +1,84 @@
+#!/usr/bin/env python3
+"""Runs `verify` of the built program on growing families, and prints a table.
+
+verify.py [PROGRAM]    PROGRAM is crates/df_main/out/df_main where it isn't given
+
+The families have blocks of 16 points. Over the group of order 127 they are the multiples of some blocks by 1 to 63,
+which cover each difference equally often. The last one is over the group of order 128: 127 blocks are chosen so that
+their differences of each even part are as many as there are such differences, times 240, and are multiplied by the
+odd numbers below 64. A source whose name ends in `refused` asks for one more block a pair: its text is one line.
+"""
+import pathlib, random, subprocess, sys, time
+
+
+def multiples(v, blocks, units):
+    return [sorted(u * p % v for p in block) for block in blocks for u in units]
+
+
+def prime_family(count, seed):
+    rng = random.Random(seed)
+    blocks = [rng.sample(range(127), 16) for _ in range(count)]
+    return 127, 120 * count, multiples(127, blocks, range(1, 64))
+
+
+def part(d):
+    """The exponent of 2 in a difference."""
+    return (d & -d).bit_length() - 1
+
+
+def parts(block):
+    counts = [0] * 7
+    for a in block:
+        for b in block:
+            if a != b:
+                counts[part((a - b) % 128)] += 1
+    return counts
+
+
+def even_family(seed):
+    """Changes points one by one until the counts of all 127 blocks are those of all differences, times 240."""
+    rng = random.Random(seed)
+    wanted = [240 * (64 >> j) for j in range(7)]
+    blocks = [rng.sample(range(128), 16) for _ in range(127)]
+    counts = [parts(block) for block in blocks]
+    total = [sum(c[j] for c in counts) for j in range(7)]
+    far = lambda t: sum(abs(a - b) for a, b in zip(t, wanted))
+    while far(total):
+        i, place, point = rng.randrange(127), rng.randrange(16), rng.randrange(128)
+        if point in blocks[i]:
+            continue
+        block = blocks[i][:place] + [point] + blocks[i][place + 1:]
+        new = parts(block)
+        moved = [t - a + b for t, a, b in zip(total, counts[i], new)]
+        if far(moved) <= far(total):
+            blocks[i], counts[i], total = block, new, moved
+    return 128, 32 * 240, multiples(128, blocks, range(1, 64, 2))
+
+
+def source(v, target, blocks):
+    lines = [f"group {v}", "k 16", f"lambda {target}"] + ["base " + " ".join(map(str, b)) for b in blocks]
+    return ("\n".join(lines) + "\n").encode()
+
+
+def main():
+    top = pathlib.Path(__file__).resolve().parent.parent
+    program = sys.argv[1] if len(sys.argv) > 1 else str(top / "crates/df_main/out/df_main")
+    families = [(f"order 127, {63 * n} base blocks", prime_family(n, n)) for n in (1, 4, 16, 64)]
+    families.append(("order 128, 4064 base blocks", even_family(7)))
+    v, target, blocks = families[-1][1]
+    families.append(("the same, refused", (v, target + 1, blocks)))
+    print(f"{'family':34} {'blocks':>8} {'bytes':>10} {'seconds':>8} {'ns/block':>9}")
+    for name, (v, target, blocks) in families:
+        text = source(v, target, blocks)
+        start = time.perf_counter()
+        run = subprocess.run([program, "verify"], input=text, stdout=subprocess.PIPE)
+        seconds = time.perf_counter() - start
+        printed = run.stdout.count(b"\nblock ")
+        wanted = (0, v * len(blocks)) if not name.endswith("refused") else (1, 0)
+        if (run.returncode, printed) != wanted:
+            sys.exit(f"{name}: status {run.returncode} and {printed} blocks, not {wanted}")
+        each = f"{seconds * 1e9 / printed:9.0f}" if printed else f"{'':9}"
+        print(f"{name:34} {printed:8} {len(run.stdout):10} {seconds:8.3f} {each}")
+
+
+main()

@@ -1,0 +1,8 @@
+pub mod Giving
+pub mod LinesOf
+pub mod Digits
+pub mod Known
+pub mod WordsOf
+pub mod FirstPlace
+pub mod NumbersBack
+pub mod Joining

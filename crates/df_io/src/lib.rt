@@ -1,0 +1,31 @@
+//! Where bytes come from and go to, and what a text of bytes says: sources and sinks with their counts of faults,
+//! whole inputs and outputs, lines, tokens and decimal numbers.
+//! It stands on `arrayvec` alone, for buffers of a fixed size.
+//! The crates above may use each name below: a clause sees a source as the bytes it has left, a sink as the bytes it
+//! has taken, and a text as the lists of `specs/Lines` and `specs/Number`.
+#![tactic(auto)]
+
+mod bytes;
+mod laws;
+mod lines;
+mod mem;
+mod numbers;
+mod std_streams;
+mod sure;
+mod texts;
+mod tokens;
+mod traits;
+
+pub use bytes::{ReadError, WriteFault, read_all, write_all};
+pub use laws::{lines_are_read_back, numbers_are_read_back, tokens_are_read_back};
+pub use lines::{Line, Lines};
+pub use mem::{MemSink, MemSource};
+pub use numbers::{NumberRead, read_number};
+pub use std_streams::{StdSink, StdSource};
+pub use sure::{SureSink, SureSource};
+pub use texts::{LineBuf, put_number, put_signed, put_text};
+pub use tokens::{Span, Tokens};
+pub use traits::{Failed, Sink, Source};
+
+/// The allocator had no memory left.
+pub type OutOfMemory = std::alloc::AllocError;

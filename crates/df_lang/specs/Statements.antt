@@ -1,0 +1,115 @@
+-- Each statement: its rules in their order, and what stands above the next line.
+use Rattle.std.specs.Prelude.{◌==◌, ℕ, ◌+◌, ◌-◌, min, List, [], ◌∷◌, ◌++◌, length, nat_lt, is_none, if◌then◌else◌, Option, Some, None, Result, Ok, ok_or, codes, bytes_eq}
+use Rattle.df_group.specs.Elements.{order_of}
+use Rattle.df_group.specs.Subgroups.{exponent_of}
+use Rattle.df_lang.specs.declared.fault.SourceFault.{SourceFault}
+use Rattle.df_lang.specs.declared.fault.SourceFault.TheVariants.{BadWord, BadNumber, FixedRange, TargetRange, TooManyBlocks}
+use Rattle.df_lang.specs.declared.parts.Kind.{Kind}
+use Rattle.df_lang.specs.declared.parts.Kind.TheVariants as kind
+use Rattle.df_lang.specs.declared.parts.Word.{Word}
+use Rattle.df_lang.specs.declared.parts.Word.TheVariants as word
+use Rattle.df_lang.specs.Rules.{◌>>=◌, allowed, once, one_number}
+use Rattle.df_lang.specs.StandsAbove.{Above, group_of, sizes_of, fixed_of, version_of}
+use Rattle.df_lang.specs.Values.{factors_from, subgroup_of, shift_of, mults_of, sizes_read, inside_of, points_from}
+
+-- the version, which is 2 where it is stated
+unfoldable pub version_line : Above → List (List ℕ) → Result Above SourceFault
+version_line a tokens = one_number 2 2 BadNumber tokens >>= λ n. Ok (record a { version = Some n })
+
+-- the factors of the group
+unfoldable pub group_line : Above → List (List ℕ) → Result Above SourceFault
+group_line a tokens = once a.group >>= λ _. factors_from [] tokens >>= λ fs. Ok (record a { group = Some fs })
+
+-- the number of fixed points: at most 16, and at most 128 points with the elements
+unfoldable pub fixed_line : Above → List (List ℕ) → Result Above SourceFault
+fixed_line a tokens = once a.fixed >>= λ _. group_of a >>= λ fs. one_number 0 (min 16 (128 - order_of fs)) FixedRange tokens >>= λ n. Ok (record a { fixed = Some n })
+
+-- a named subgroup
+unfoldable pub subgroup_line : Above → List (List ℕ) → Result Above SourceFault
+subgroup_line a tokens = group_of a >>= λ fs. subgroup_of fs a.names tokens >>= λ named. Ok (record a { names = a.names ++ named ∷ [] })
+
+-- the subgroup whose elements shift a design to itself
+unfoldable pub shift_line : Above → List (List ℕ) → Result Above SourceFault
+shift_line a tokens = once a.shift >>= λ _. group_of a >>= λ _. shift_of a.names tokens >>= λ w. Ok (record a { shift = Some w })
+
+-- the multipliers
+unfoldable pub mult_line : Above → List (List ℕ) → Result Above SourceFault
+mult_line a tokens = once a.mults >>= λ _. group_of a >>= λ fs. mults_of (exponent_of fs) tokens >>= λ ms. Ok (record a { mults = Some ms })
+
+-- the sizes of the blocks: at most 16, and at most the number of points stated above
+unfoldable pub size_line : Above → List (List ℕ) → Result Above SourceFault
+size_line a tokens = once a.sizes >>= λ _. group_of a >>= λ fs. sizes_read (version_of a) (min 16 (order_of fs + fixed_of a)) tokens >>= λ ks. Ok (record a { sizes = Some ks })
+
+-- the target
+unfoldable pub lambda_line : Above → List (List ℕ) → Result Above SourceFault
+lambda_line a tokens = once a.lambda >>= λ _. group_of a >>= λ _. one_number 0 2000000 TargetRange tokens >>= λ n. Ok (record a { lambda = Some n })
+
+-- the target inside the cosets of a subgroup
+unfoldable pub inside_line : Above → List (List ℕ) → Result Above SourceFault
+inside_line a tokens = once a.inside >>= λ _. group_of a >>= λ _. inside_of a.names tokens >>= λ i. Ok (record a { inside = Some i })
+
+-- the target of two fixed points
+unfoldable pub hole_line : Above → List (List ℕ) → Result Above SourceFault
+hole_line a tokens = once a.hole >>= λ _. group_of a >>= λ _. one_number 0 2000000 TargetRange tokens >>= λ n. Ok (record a { hole = Some n })
+
+-- a block, where so many of its kind stand above: fewer than 4,096
+unfoldable pub block_of : Above → ℕ → List (List ℕ) → Result (List ℕ) SourceFault
+block_of a count tokens = group_of a >>= λ fs. sizes_of a >>= λ ks. allowed (nat_lt count 4096) TooManyBlocks >>= λ _. points_from fs (fixed_of a) ks [] tokens
+
+-- a block of the family
+unfoldable pub member_line : Above → Kind → List (List ℕ) → Result Above SourceFault
+member_line a k tokens = block_of a (length a.family) tokens >>= λ b. Ok (record a { family = a.family ++ record { kind = k; block = b } ∷ [] })
+
+-- a required block
+unfoldable pub require_line : Above → List (List ℕ) → Result Above SourceFault
+require_line a tokens = block_of a (length a.required + length a.forbidden) tokens >>= λ b. Ok (record a { required = a.required ++ b ∷ [] })
+
+-- a forbidden block
+unfoldable pub forbid_line : Above → List (List ℕ) → Result Above SourceFault
+forbid_line a tokens = block_of a (length a.required + length a.forbidden) tokens >>= λ b. Ok (record a { forbidden = a.forbidden ++ b ∷ [] })
+
+-- the words of statements
+abbrev pub word_of : List ℕ → Option Word
+word_of token =
+    if bytes_eq token (codes "group") then Some word.Group else
+    (if bytes_eq token (codes "fixed") then Some word.Fixed else
+    (if bytes_eq token (codes "subgroup") then Some word.Subgroup else
+    (if bytes_eq token (codes "shift") then Some word.Shift else
+    (if bytes_eq token (codes "mult") then Some word.Mult else
+    (if bytes_eq token (codes "k") then Some word.Size else
+    (if bytes_eq token (codes "lambda") then Some word.Lambda else
+    (if bytes_eq token (codes "inside") then Some word.Inside else
+    (if bytes_eq token (codes "hole") then Some word.Hole else
+    (if bytes_eq token (codes "base") then Some word.Base else
+    (if bytes_eq token (codes "short") then Some word.Short else
+    (if bytes_eq token (codes "require") then Some word.Require else
+    (if bytes_eq token (codes "forbid") then Some word.Forbid else None))))))))))))
+
+-- a statement, by its word: two words belong to version 2 alone
+unfoldable pub meaning : Above → Word → List (List ℕ) → Result Above SourceFault
+meaning a word.Group tokens = group_line a tokens
+meaning a word.Fixed tokens = fixed_line a tokens
+meaning a word.Subgroup tokens = subgroup_line a tokens
+meaning a word.Shift tokens = shift_line a tokens
+meaning a word.Mult tokens = mult_line a tokens
+meaning a word.Size tokens = size_line a tokens
+meaning a word.Lambda tokens = lambda_line a tokens
+meaning a word.Inside tokens = inside_line a tokens
+meaning a word.Hole tokens = hole_line a tokens
+meaning a word.Base tokens = member_line a kind.Base tokens
+meaning a word.Short tokens = member_line a kind.Short tokens
+meaning a word.Require tokens = allowed (version_of a == 2) BadWord >>= λ _. require_line a tokens
+meaning a word.Forbid tokens = allowed (version_of a == 2) BadWord >>= λ _. forbid_line a tokens
+
+-- a line of a source whose version is known
+unfoldable pub statement_line : Above → List ℕ → List (List ℕ) → Result Above SourceFault
+statement_line a first tokens = ok_or (word_of first) BadWord >>= λ w. meaning a w tokens
+
+-- the first line with tokens: it says the version, or is of version 1
+unfoldable pub first_line : Above → List ℕ → List (List ℕ) → Result Above SourceFault
+first_line a first tokens = if bytes_eq first (codes "version") then version_line a tokens else statement_line (record a { version = Some 1 }) first tokens
+
+-- what stands above the next line, by the tokens of a line
+unfoldable pub step : Above → List (List ℕ) → Result Above SourceFault
+step a [] = Ok a
+step a (first ∷ tokens) = if is_none a.version then first_line a first tokens else statement_line a first tokens
