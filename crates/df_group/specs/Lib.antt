@@ -1,3 +1,5 @@
 pub mod Elements
+pub mod Multiples
+pub mod Places
 pub mod Refusals
 pub mod Subgroups

@@ -4,13 +4,21 @@ use Rattle.std.specs.List.{flat_map, range_with_len, list_any, list_all}
 use Rattle.df_lists.specs.NumberSets.{has_member, set_of}
 use Rattle.df_group.specs.Elements.{order_of, group_of, minus}
 
+-- each factor divides n
+abbrev pub is_common_multiple : List ℕ → ℕ → Bool
+is_common_multiple fs n = list_all (λ f. n % f == 0) fs
+
 -- the least common multiple of the factors: the least number from 1 on that each factor divides
 unfoldable pub exponent_of : List ℕ → ℕ
-exponent_of fs = unwrap_or (find (λ n. list_all (λ f. n % f == 0) fs) (range_with_len 1 (order_of fs))) 1
+exponent_of fs = unwrap_or (find (is_common_multiple fs) (range_with_len 1 (order_of fs))) 1
+
+-- d divides both
+abbrev pub divides_both : ℕ → ℕ → ℕ → Bool
+divides_both n m d = (n % d == 0) && (m % d == 0)
 
 -- prime to n: no number from 2 to n divides both
 unfoldable pub is_unit : ℕ → ℕ → Bool
-is_unit n m = not (list_any (λ d. (n % d == 0) && (m % d == 0)) (range_with_len 2 (n - 1)))
+is_unit n m = not (list_any (divides_both n m) (range_with_len 2 (n - 1)))
 
 -- the sums c1 g1 + .. + cs gs, with each c from 0 and below the exponent
 unfoldable pub sums : List ℕ → List ℕ → List ℕ

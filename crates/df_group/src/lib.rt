@@ -3,8 +3,13 @@
 //! The crates above see a `Shape` as its list of factors, an `Elem` as its number and a `Subgroup` as the increasing list of its members.
 #![tactic(auto)]
 
+mod laws;
+mod residues;
 mod shape;
 mod subgroup;
 
+pub use laws::{
+    elements_are_numbered, multiples_are_multiples, products_are_groups, units_are_undone,
+};
 pub use shape::{Elem, Shape, ShapeError};
 pub use subgroup::Subgroup;

@@ -1,9 +1,11 @@
 // The factors of a group, and its elements by their numbers.
-ghost use Rattle.std.specs.Prelude.{◌≡◌, ◌<◌, ◌≤◌, ◌+◌, ◌*◌, ℕ, length, All, MatchResult, IfNone, Some, None};
+ghost use Rattle.std.specs.Prelude.{◌≡◌, ◌<◌, ◌≤◌, ◌+◌, ◌*◌, ◌%◌, ℕ, length, All, MatchBool, MatchOption, MatchResult, IfNone, IfSome, Some, None};
 ghost use Rattle.std.specs.List.{position};
-ghost use Rattle.df_group.specs.Elements.{order_of, IsFactor, IsShape};
+ghost use Rattle.df_group.specs.Elements.{order_of, group_of, minus, number, residues, IsElement, IsFactor, IsShape};
 ghost use Rattle.df_group.specs.Refusals.{refusal, is_outside};
+ghost use Rattle.df_group.specs.Subgroups.{exponent_of, is_common_multiple, is_unit};
 
+use crate::residues;
 use arrayvec::ArrayVec;
 use std::marker::Model;
 
@@ -43,17 +45,19 @@ impl Model for Elem {
 pub struct Shape {
     factors: ArrayVec<u16, 7>,
     order: u8,
+    exponent: u8,
 }
 
 impl Model for Shape {
     ghost use Rattle.std.specs.Prelude.{◌≡◌, List, ℕ};
     ghost use Rattle.df_group.specs.Elements.{order_of, IsShape};
+    ghost use Rattle.df_group.specs.Subgroups.{exponent_of};
 
     ghost Value = { List ℕ };
 
     ghost view = { λ s. s.factors.items };
 
-    ghost invariant = { λ s. (s.order ≡ order_of s.factors.items) × IsShape s.factors.items };
+    ghost invariant = { λ s. (s.order ≡ order_of s.factors.items) × (s.exponent ≡ exponent_of s.factors.items) × IsShape s.factors.items };
 }
 
 impl Shape {
@@ -74,10 +78,23 @@ impl Shape {
         if order > 128 {
             return Err(ShapeError::OrderTooLarge);
         }
+        let order = order as u8;
         Ok(Shape {
             factors: kept(factors),
-            order: order as u8,
+            order,
+            exponent: exponent_up_to(factors, order),
         })
+    }
+
+    /// The same shape once more.
+    pub fn copied(&self) -> Shape
+        ensures { result ≡ self.now }
+    {
+        Shape {
+            factors: kept(self.factors.as_slice()),
+            order: self.order,
+            exponent: self.exponent,
+        }
     }
 
     /// The factors, the first one first.
@@ -95,6 +112,102 @@ impl Shape {
         ensures high { result ≤ 128 }
     {
         self.order
+    }
+
+    /// The least common multiple of the factors, from 2 to 128: the least number from 1 on that each factor divides.
+    pub fn exponent(&self) -> u8
+        ensures exponent { result ≡ exponent_of self.now }
+        ensures multiple { All (λ f. result % f ≡ 0) self.now }
+        ensures least { (n : ℕ) → 0 < n → All (λ f. n % f ≡ 0) self.now → result ≤ n }
+        ensures low { 2 ≤ result }
+        ensures high { result ≤ 128 }
+    {
+        self.exponent
+    }
+
+    /// The residues of an element below the order, one below each factor.
+    pub fn coords(&self, e: Elem) -> ArrayVec<u16, 7>
+        requires { e < order_of self.now }
+        ensures residues { result.items ≡ residues self.now e }
+        ensures element { IsElement self.now result.items }
+    {
+        residues::residues_of(self.factors.as_slice(), self.order, e.0)
+    }
+
+    /// The element with these residues. `None` exactly where there isn't one residue for each factor, or a residue isn't below its factor.
+    pub fn elem(&self, residues: &[u16]) -> Option<Elem>
+        ensures element { MatchOption result (IsElement self.now residues.now → ⊥) (λ e. IsElement self.now residues.now × (e ≡ number self.now residues.now)) }
+        ensures below { IfSome result (λ e. e < order_of self.now) }
+    {
+        let factors = self.factors.as_slice();
+        if residues::is_element(factors, residues) {
+            Some(Elem(residues::number_of(factors, residues)))
+        } else {
+            None
+        }
+    }
+
+    /// The sum of two elements below the order.
+    pub fn add(&self, a: Elem, b: Elem) -> Elem
+        requires a { a < order_of self.now }
+        requires b { b < order_of self.now }
+        ensures sum { result ≡ (group_of self.now).plus a b }
+        ensures below { result < order_of self.now }
+    {
+        let factors = self.factors.as_slice();
+        let sum = residues::sum(
+            factors,
+            self.coords(a).as_slice(),
+            self.coords(b).as_slice(),
+        );
+        Elem(residues::number_of(factors, sum.as_slice()))
+    }
+
+    /// The negative of an element below the order.
+    pub fn neg(&self, a: Elem) -> Elem
+        requires { a < order_of self.now }
+        ensures negative { result ≡ (group_of self.now).neg a }
+        ensures below { result < order_of self.now }
+    {
+        let factors = self.factors.as_slice();
+        let negative = residues::negative(factors, self.coords(a).as_slice());
+        Elem(residues::number_of(factors, negative.as_slice()))
+    }
+
+    /// The difference of two elements below the order.
+    pub fn sub(&self, a: Elem, b: Elem) -> Elem
+        requires a { a < order_of self.now }
+        requires b { b < order_of self.now }
+        ensures difference { result ≡ minus (group_of self.now) a b }
+        ensures below { result < order_of self.now }
+    {
+        self.add(a, self.neg(b))
+    }
+
+    /// The sum of `m` times an element below the order.
+    pub fn times(&self, m: u32, a: Elem) -> Elem
+        requires { a < order_of self.now }
+        ensures multiple { result ≡ (group_of self.now).times m a }
+        ensures below { result < order_of self.now }
+    {
+        let factors = self.factors.as_slice();
+        let multiple = residues::multiple(factors, m, self.coords(a).as_slice());
+        Elem(residues::number_of(factors, multiple.as_slice()))
+    }
+
+    /// Whether `m` is prime to the exponent: no number from 2 on divides both.
+    pub fn is_unit(&self, m: u32) -> bool
+        ensures unit { result ≡ is_unit (exponent_of self.now) m }
+        ensures prime { MatchBool result ((d : ℕ) → 2 ≤ d → exponent_of self.now % d ≡ 0 → m % d ≡ 0 → ⊥)
+            ((d : ℕ) × (2 ≤ d) × (exponent_of self.now % d ≡ 0) × (m % d ≡ 0)) }
+    {
+        let exponent = u32::from(self.exponent);
+        for d in 2..exponent + 1 {
+            if exponent % d == 0 && m % d == 0 {
+                return false;
+            }
+        }
+        true
     }
 }
 
@@ -127,4 +240,25 @@ fn order_up_to(factors: &[u16]) -> u64
         order *= u64::from(factors[i]);
     }
     order
+}
+
+// The least common multiple of the factors, which is at most their product.
+fn exponent_up_to(factors: &[u16], order: u8) -> u8
+    requires shape { IsShape factors.now }
+    requires order { order ≡ order_of factors.now }
+    ensures { result ≡ exponent_of factors.now }
+{
+    for n in 1..order {
+        if is_common_multiple(factors, n) {
+            return n;
+        }
+    }
+    order
+}
+
+fn is_common_multiple(factors: &[u16], n: u8) -> bool
+    requires { All IsFactor factors.now }
+    ensures { result ≡ is_common_multiple factors.now n }
+{
+    factors.iter().all(|f| u16::from(n) % *f == 0)
 }
