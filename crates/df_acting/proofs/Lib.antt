@@ -1,0 +1,4 @@
+pub mod ClassLaws
+pub mod EarliestLaws
+pub mod ImageLaws
+pub mod TestLaws

@@ -1,0 +1,53 @@
+-- Tests over the members of lists.
+use Rattle.std.proofs.Common.{◌≡◌, ℕ, ◌<◌, ◌+◌, Bool, true, false, List, [], ◌∷◌, map, filter, refl, sym, ap, ◌∙◌, subst, inl, inr, ◌⊎◌, eqb, eq-eqb, eqb-true, arith}
+use Rattle.std.specs.List.{range_with_len, list_any, list_all}
+use Rattle.std.proofs.lemmas.Bool.{false≢true, or_cases, or_left, or_right, and_parts, and_from}
+use Rattle.df_lists.specs.Membership.{In}
+use Rattle.df_lists.specs.NumberSets.{has_member}
+
+-- two tests that are true together
+pub same_tests : (a b : Bool) → (a ≡ true → b ≡ true) → (b ≡ true → a ≡ true) → a ≡ b
+same_tests true true f g = refl
+same_tests false false f g = refl
+same_tests true false f g = sym (f refl)
+same_tests false true f g = g refl
+
+pub any_from : {X : Type 0} (t : X → Bool) (xs : List X) (x : X) → In xs x → t x ≡ true → list_any t xs ≡ true
+any_from t [] x i h = absurd i
+any_from t (y ∷ ys) x (inl e) h = or_left (t y) (list_any t ys) (ap t e ∙ h)
+any_from t (y ∷ ys) x (inr i) h = or_right (t y) (list_any t ys) (any_from t ys x i h)
+
+pub any_gives : {X : Type 0} (t : X → Bool) (xs : List X) → list_any t xs ≡ true → (x : X) × In xs x × (t x ≡ true)
+any_gives t [] h = absurd (false≢true h)
+any_gives {X = X} t (y ∷ ys) h = go (or_cases (t y) (list_any t ys) h) (any_gives t ys)
+  where
+    go : (t y ≡ true) ⊎ (list_any t ys ≡ true) → (list_any t ys ≡ true → (x : X) × In ys x × (t x ≡ true)) → (x : X) × In (y ∷ ys) x × (t x ≡ true)
+    go (inl e) more = (y, inl refl, e)
+    go (inr e) more = let r = more e in (r.0, inr r.1, r.2)
+
+pub all_from : {X : Type 0} (t : X → Bool) (xs : List X) → ((x : X) → In xs x → t x ≡ true) → list_all t xs ≡ true
+all_from t [] h = refl
+all_from t (x ∷ xs) h = and_from (t x) (list_all t xs) (h x (inl refl)) (all_from t xs (λ y i. h y (inr i)))
+
+pub all_gives : {X : Type 0} (t : X → Bool) (xs : List X) → list_all t xs ≡ true → (x : X) → In xs x → t x ≡ true
+all_gives t [] h x i = absurd i
+all_gives t (y ∷ xs) h x (inl e) = sym (ap t e) ∙ (and_parts (t y) (list_all t xs) h).0
+all_gives t (y ∷ xs) h x (inr i) = all_gives t xs (and_parts (t y) (list_all t xs) h).1 x i
+
+pub filter_agree : {X : Type 0} (s t : X → Bool) (xs : List X) → ((x : X) → In xs x → s x ≡ t x) → filter s xs ≡ filter t xs
+filter_agree s t [] h = refl
+filter_agree s t (x ∷ xs) h = rw (h x (inl refl), filter_agree s t xs (λ y i. h y (inr i))) refl
+
+pub map_agree : {X Y : Type 0} (f g : X → Y) (xs : List X) → ((x : X) → In xs x → f x ≡ g x) → map f xs ≡ map g xs
+map_agree f g [] h = refl
+map_agree f g (x ∷ xs) h = rw (h x (inl refl), map_agree f g xs (λ y i. h y (inr i))) refl
+
+pub map_fixed : {X : Type 0} (f : X → X) (xs : List X) → ((x : X) → In xs x → f x ≡ x) → map f xs ≡ xs
+map_fixed f [] h = refl
+map_fixed f (x ∷ xs) h = rw (h x (inl refl), map_fixed f xs (λ y i. h y (inr i))) refl
+
+pub has_from : (b : List ℕ) (p : ℕ) → In b p → has_member b p ≡ true
+has_from b p i = any_from (λ q. eqb q p) b p i (eq-eqb p p refl)
+
+pub has_gives : (b : List ℕ) (p : ℕ) → has_member b p ≡ true → In b p
+has_gives b p h = let r = any_gives (λ q. eqb q p) b h in subst (In b) (eqb-true r.0 p r.2) r.1

@@ -1,0 +1,4 @@
+pub mod Classes
+pub mod Earliest
+pub mod Images
+pub mod Laws

@@ -1,0 +1,23 @@
+//! Lists of maps that act on things of one kind: the classes that they make, the earliest members, and the counts over two kinds.
+//! It stands on df_lists and has no code that runs: each public function has an empty body, and its contract is a law.
+//! The crates above cite the words of its specs/ and the lemmas of its proofs/.
+#![tactic(auto)]
+
+ghost use Rattle.std.specs.Prelude.{ℕ};
+ghost use Rattle.df_acting.specs.Laws.{ImagesAreMoved, EarliestAreOne, EntriesAreQuotients};
+
+/// A group of maps of the points is one of maps of the sets of points, and keeps how many points a set has.
+pub fn images_are_moved()
+    ensures { ImagesAreMoved (ℕ × ℕ) }
+{}
+
+/// Each class has one earliest member: the earliest image of each of its members.
+pub fn earliest_are_one()
+    ensures { EarliestAreOne (ℕ × ℕ) }
+{}
+
+/// The number of blocks of one class that hold x, times the size of the class of x, is the size of that class of blocks times the number of things of the class of x in one of them.
+/// The number is the same for all of the class of x.
+pub fn entries_are_quotients()
+    ensures { EntriesAreQuotients (ℕ × ℕ) }
+{}
