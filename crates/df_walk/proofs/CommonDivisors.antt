@@ -53,8 +53,8 @@ IsCommonDivisor-cons n ns g k common two =
     record {
       divides = and_from (is_multiple k n) (list_all (is_multiple k) ns) (is_multiple_from_dvd k n two.0) (all_multiples_of k g ns two.1 common.divides);
       greatest = λ m all.
-      let parts = and_parts (is_multiple m n) (list_all (is_multiple m) ns) all in
-      two.2 m (dvd_from_is_multiple m n parts.0) (common.greatest m parts.1);
+          let parts = and_parts (is_multiple m n) (list_all (is_multiple m) ns) all in
+          two.2 m (dvd_from_is_multiple m n parts.0) (common.greatest m parts.1);
     }
 
 has_common : (ns : List ℕ) → (g : ℕ) × IsCommonDivisor ns g

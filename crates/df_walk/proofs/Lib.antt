@@ -20,3 +20,5 @@ pub mod LogSoundness
 pub mod LogForms
 pub mod WalkLogs
 pub mod DecisionLaws
+pub mod WalkCuts
+pub mod NeedBounds

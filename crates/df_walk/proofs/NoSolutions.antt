@@ -42,7 +42,7 @@ under_none s ds row h = none_solves s ds (λ x l k.
     omega (arith, k.solved row h.0))
 
 -- what is taken and a multiple of what divides each undecided entry
-multiple_more : (es : List ℕ) (ds : Decisions) (x : List Bool) (m : ℕ) → list_all (is_multiple m) (open_values es ds) ≡ true → keeps ds x ≡ true → (k : ℕ) × (product es x ≡ taken es ds + k * m)
+pub multiple_more : (es : List ℕ) (ds : Decisions) (x : List Bool) (m : ℕ) → list_all (is_multiple m) (open_values es ds) ≡ true → keeps ds x ≡ true → (k : ℕ) × (product es x ≡ taken es ds + k * m)
 multiple_more es [] [] m a k = (0, omega arith)
 multiple_more es (d ∷ ds) [] m a k = absurd (false≢true k)
 multiple_more [] [] (b ∷ x) m a k = (0, omega arith)

@@ -14,10 +14,10 @@ use Rattle.df_walk.specs.Remains.{later_walk, walk_on, IsVisitedFrom, IsVisited}
 
 -- the test of a path
 abbrev pub on_path : (List Bool → Bool) → Step → Bool
-on_path t (p, e) = t p
+on_path t step = t step.0
 
 -- all entries of a walk stand at extensions of its start
-walk_passes : (rules : Rules) (s : System) (left : ℕ) (p : List Bool) (t : List Bool → Bool) → ((q : List Bool) → t (p ++ q) ≡ true) → filter (on_path t) (walk_from rules s left p) ≡ walk_from rules s left p
+pub walk_passes : (rules : Rules) (s : System) (left : ℕ) (p : List Bool) (t : List Bool → Bool) → ((q : List Bool) → t (p ++ q) ≡ true) → filter (on_path t) (walk_from rules s left p) ≡ walk_from rules s left p
 walk_passes rules s zero p t h = let here = rw (append-nil p) at (h []) in rw here
 walk_passes rules s (suc left) p t h =
     let here = rw (append-nil p) at (h []) in
@@ -33,7 +33,7 @@ walk_passes rules s (suc left) p t h =
     go Settled A B a b = refl
     go (Branch c) A B a b = filter-append (on_path t) A B ∙ rw (a, b)
 
-walk_fails : (rules : Rules) (s : System) (left : ℕ) (p : List Bool) (t : List Bool → Bool) → ((q : List Bool) → t (p ++ q) ≡ false) → filter (on_path t) (walk_from rules s left p) ≡ []
+pub walk_fails : (rules : Rules) (s : System) (left : ℕ) (p : List Bool) (t : List Bool → Bool) → ((q : List Bool) → t (p ++ q) ≡ false) → filter (on_path t) (walk_from rules s left p) ≡ []
 walk_fails rules s zero p t h = let here = rw (append-nil p) at (h []) in rw here
 walk_fails rules s (suc left) p t h =
     let here = rw (append-nil p) at (h []) in
@@ -49,22 +49,22 @@ walk_fails rules s (suc left) p t h =
     go Settled A B a b = refl
     go (Branch c) A B a b = filter-append (on_path t) A B ∙ rw (a, b)
 
-not_before_self : (p q : List Bool) → not_before p (p ++ q) ≡ true
+pub not_before_self : (p q : List Bool) → not_before p (p ++ q) ≡ true
 not_before_self [] q = refl
 not_before_self (true ∷ p) q = not_before_self p q
 not_before_self (false ∷ p) q = not_before_self p q
 
-not_before_prefix : (p : List Bool) (b : Bool) (q : List Bool) → not_before (p ++ b ∷ q) p ≡ false
+pub not_before_prefix : (p : List Bool) (b : Bool) (q : List Bool) → not_before (p ++ b ∷ q) p ≡ false
 not_before_prefix [] b q = refl
 not_before_prefix (true ∷ p) b q = not_before_prefix p b q
 not_before_prefix (false ∷ p) b q = not_before_prefix p b q
 
-not_before_no : (p q r : List Bool) → not_before (p ++ true ∷ q) ((p ++ false ∷ []) ++ r) ≡ true
+pub not_before_no : (p q r : List Bool) → not_before (p ++ true ∷ q) ((p ++ false ∷ []) ++ r) ≡ true
 not_before_no [] q r = refl
 not_before_no (true ∷ p) q r = not_before_no p q r
 not_before_no (false ∷ p) q r = not_before_no p q r
 
-not_before_yes : (p q r : List Bool) → not_before (p ++ false ∷ q) ((p ++ true ∷ []) ++ r) ≡ false
+pub not_before_yes : (p q r : List Bool) → not_before (p ++ false ∷ q) ((p ++ true ∷ []) ++ r) ≡ false
 not_before_yes [] q r = refl
 not_before_yes (true ∷ p) q r = not_before_yes p q r
 not_before_yes (false ∷ p) q r = not_before_yes p q r
@@ -73,7 +73,7 @@ not_before_yes (false ∷ p) q r = not_before_yes p q r
 pub walk_is : (rules : Rules) (s : System) (p : List Bool) (left : ℕ) → length p + left ≡ (length s.columns) → walk rules s p ≡ walk_from rules s left p
 walk_is rules s p left h = let e : (length s.columns) - length p ≡ left = omega arith in ap (λ n. walk_from rules s n p) e
 
-below_branch : (e : Entry) (more : List Step) → is_branch e ≡ true → below e more ≡ more
+pub below_branch : (e : Entry) (more : List Step) → is_branch e ≡ true → below e more ≡ more
 below_branch (Branch c) more h = refl
 below_branch Settled more h = absurd (false≢true h)
 below_branch (Over r) more h = absurd (false≢true h)

@@ -6,3 +6,4 @@ pub mod Walks
 pub mod Paths
 pub mod Remains
 pub mod Logs
+pub mod LawStatements
