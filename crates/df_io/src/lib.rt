@@ -29,3 +29,6 @@ pub use traits::{Failed, Sink, Source};
 
 /// The allocator had no memory left.
 pub type OutOfMemory = std::alloc::AllocError;
+
+#[cfg(test)]
+mod tests;

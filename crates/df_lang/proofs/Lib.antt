@@ -1,0 +1,2 @@
+pub mod ElementParts
+pub mod Factors

@@ -1,5 +1,6 @@
 pub mod Balance
 pub mod Names
+pub mod Pieces
 pub mod Problems
 pub mod Rules
 pub mod Sources

@@ -53,7 +53,7 @@ elements_from fs elements (token ∷ tokens) = ok_or (element_of fs token) BadEl
 
 -- the place of a name among those above
 abbrev pub place_of : List Named → List ℕ → Option ℕ
-place_of names token = position (λ (n : Named). bytes_eq n.0 token) names
+place_of names token = position (λ (n : Named). bytes_eq token n.0) names
 
 -- a name is reserved, or a subgroup above has it
 abbrev pub is_taken : List Named → List ℕ → Bool

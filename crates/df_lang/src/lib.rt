@@ -3,9 +3,14 @@
 //! The crates above see a `Problem` as a record of numbers and lists, and cite its target and the balance of a list of blocks.
 #![tactic(auto)]
 
+mod elements;
 mod fault;
+mod groups;
+mod names;
 mod parts;
 mod problem;
+mod tokens;
+mod words;
 
 pub use fault::{Needed, ParseError, SourceError, SourceFault};
 pub use parts::{Inside, Kind, Member, Name, Which};

@@ -1,22 +1,24 @@
-// Blocks: sets of points below 128.
-ghost use Rattle.std.specs.Prelude.{◌≡◌, ◌<◌, [], length};
-ghost use Rattle.df_lists.specs.NumberSets.{has_member, with_member};
-ghost use Rattle.std.specs.Prelude.{nat_eq};
+// Points and blocks.
+ghost use Rattle.std.specs.Prelude.{◌≡◌, ◌==◌, ◌||◌, ◌+◌, ◌<◌, ℕ, [], length, nat_eq, if◌then◌else◌, IfSome};
 ghost use Rattle.std.specs.Ordering.{nat_cmp, as_partial_cmp};
-ghost use Rattle.std.specs.Cmp.Lexicographic.{pointwise, slice_cmp, lists_per, lists_equiv, lists_total, lists_ties};
+ghost use Rattle.std.specs.Cmp.Lexicographic.{pointwise, slice_cmp, lists_per, lists_equiv, lists_total};
 ghost use Rattle.std.specs.Cmp.{partial_order_from_own_ties};
 ghost use Rattle.std.specs.Cmp.Rules.{comparing};
 ghost use Rattle.std.specs.Hash as fed;
 ghost use Rattle.std.specs.Hash.{items_Alike, same_Alike};
 ghost use Rattle.std.proofs.Common.{rules};
+ghost use Rattle.df_lists.specs.Membership.{In};
+ghost use Rattle.df_lists.specs.NumberSets.{has_member, with_member};
+ghost use Rattle.df_subsets.specs.Blocks.{IsBlock, are_apart, increasing};
 
 use arrayvec::ArrayVec;
 use std::cmp::Ordering;
+use std::fmt;
 use std::hash::{Hash, Hasher};
 use std::marker::Model;
 
-/// A point's number: elements first, in their order, and then the fixed points by theirs.
-#[derive(Clone, Copy, Debug, Default, PartialEq, Eq)]
+/// A point's number: the elements of the group first, in their order, and then the fixed points by theirs.
+#[derive(Clone, Copy, Debug, Default, PartialEq, Eq, PartialOrd, Ord, Hash)]
 pub struct Point(pub u8);
 
 impl Model for Point {
@@ -33,7 +35,9 @@ impl Model for Point {
     ghost inverse_ok = { λ a h. refl };
 }
 
-/// A set of points, seen as its increasing list.
+/// A set of points below 128, kept in 128 bits and seen as the increasing list of its points.
+///
+/// Blocks are equal, compared and hashed as these lists: a proper prefix comes before the longer list.
 #[derive(Clone, Copy)]
 pub struct Block {
     bits: u128,
@@ -57,43 +61,81 @@ impl Model for Block {
 }
 
 impl Block {
+    /// The block without points.
     pub fn empty() -> Block
         ensures { result ≡ [] }
     {
         Block { bits: 0 }
     }
 
-    pub fn has(&self, p: u8) -> bool
+    /// The block of these points, in whatever order they come.
+    /// `None` exactly where a point is repeated or isn't below 128.
+    pub fn from_points(points: &[Point]) -> Option<Block>
+        ensures value { result ≡ (if are_apart 128 points.now then Some (increasing points.now) else None) }
+        ensures size { IfSome result (λ block. length block ≡ length points.now) }
+        ensures within { (v : ℕ) → ((p : ℕ) → In points.now p → p < v) → IfSome result (λ block. IsBlock v block) }
+    {
+        let mut block = Block::empty();
+        for p in points {
+            if p.0 >= 128 || block.has(*p) {
+                return None;
+            }
+            block.insert(*p);
+        }
+        Some(block)
+    }
+
+    /// Puts a point below 128 into the block, which stays as it is where it has the point.
+    pub fn insert(&mut self, p: Point)
         requires { p < 128 }
+        ensures list { self.new ≡ with_member p self.old }
+        ensures points { (q : ℕ) → has_member self.new q ≡ (p == q || has_member self.old q) }
+        ensures size { length self.new ≡ (if has_member self.old p then length self.old else length self.old + 1) }
+        ensures within { (v : ℕ) → p < v → IsBlock v self.old → IsBlock v self.new }
+    {
+        self.bits |= 1 << p.0;
+    }
+
+    /// Whether this is a point of the block; false from 128 on.
+    pub fn has(&self, p: Point) -> bool
         ensures { result ≡ has_member self.now p }
     {
-        (self.bits >> p) & 1 == 1
+        p.0 < 128 && (self.bits >> p.0) & 1 == 1
     }
 
-    /// Puts a point into the set.
-    pub fn put(&mut self, p: u8)
-        requires { p < 128 }
-        ensures { self.new ≡ with_member p self.old }
-    {
-        self.bits |= 1 << p;
-    }
-
+    /// How many points the block has, at most 128.
     pub fn size(&self) -> u8
         ensures { result ≡ length self.now }
     {
         self.points().len() as u8
     }
 
-    pub fn points(&self) -> ArrayVec<u8, 128>
-        ensures { result.items ≡ self.now }
+    /// The points, increasing.
+    pub fn points(&self) -> ArrayVec<Point, 128>
+        ensures list { result.items ≡ self.now }
+        ensures block { IsBlock 128 self.now }
     {
         let mut points = ArrayVec::new();
         for p in 0..128u8 {
             if (self.bits >> p) & 1 == 1 {
-                points.push(p);
+                points.push(Point(p));
             }
         }
         points
+    }
+}
+
+impl Default for Block {
+    ghost is_default = { λ block. block ≡ [] };
+
+    fn default() -> Block {
+        Block::empty()
+    }
+}
+
+impl fmt::Debug for Block {
+    fn fmt<W: fmt::Write>(&self, f: &mut fmt::Formatter<W>) -> fmt::Result {
+        f.debug_set().slice(self.points().as_slice()).finish()
     }
 }
 
@@ -118,7 +160,7 @@ impl Ord for Block {
 
     ghost matches_partial_cmp = { Prim.search (comparing, rules) };
 
-    ghost matches_eq = { Prim.search (comparing, rules, lists_ties) };
+    ghost matches_eq = { Prim.search (comparing, rules) };
 
     fn cmp(&self, other: &Self) -> Ordering {
         self.points().as_slice().cmp(&other.points().as_slice())
@@ -128,7 +170,7 @@ impl Ord for Block {
 impl PartialOrd for Block {
     ghost partial_cmp = { as_partial_cmp (slice_cmp nat_cmp) };
 
-    ghost laws = { partial_order_from_own_ties (Prim.search (comparing, rules, lists_total)) (Prim.search (comparing, rules, lists_ties)) };
+    ghost laws = { partial_order_from_own_ties (Prim.search (comparing, rules, lists_total)) (Prim.search (comparing, rules)) };
 
     fn partial_cmp(&self, other: &Self) -> Option<Ordering> {
         Some(self.cmp(other))
@@ -136,7 +178,7 @@ impl PartialOrd for Block {
 }
 
 impl Hash for Block {
-    ghost hash_input = { λ v. fed.slice ⟦<u8 as Hash>⟧.hash_input v };
+    ghost hash_input = { λ v. fed.slice ⟦<Point as Hash>⟧.hash_input v };
 
     ghost respects_eq = { Prim.search (rules, items_Alike, same_Alike) };
 

@@ -4,5 +4,9 @@
 #![tactic(auto)]
 
 mod block;
+mod laws;
+#[cfg(test)]
+mod tests;
 
 pub use block::{Block, Point};
+pub use laws::{blocks_are_extended, blocks_are_gathered, blocks_are_sets};

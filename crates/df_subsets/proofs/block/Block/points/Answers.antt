@@ -1,8 +1,10 @@
-use Rattle.std.proofs.Common.{◌≡◌, ℕ, ◌+◌, ◌≤◌, ◌++◌, ◌∷◌, [], Bool, true, false, cond, List, length, filter, sym, ap, ◌∙◌, arith, tests, length-append, append-nil}
+use Rattle.std.proofs.Common.{◌≡◌, ℕ, ◌+◌, ◌≤◌, ◌++◌, ◌∷◌, [], Bool, true, false, cond, List, length, filter, sym, ap, subst, ◌∙◌, arith, tests, length-append, append-nil}
 use Rattle.std.specs.List.{range_with_len}
 use Rattle.std.proofs.lemmas.Nat.Bits.{shr_and_one}
 use Rattle.df_lists.specs.NumberSets.{members, is_set}
 use Rattle.df_lists.specs.BitLaws.{filter_more}
+use Rattle.df_subsets.specs.Blocks.{IsBlock}
+use Rattle.df_subsets.proofs.BlockLaws.{members_rise}
 use Rattle.df_subsets.proofs.block.Block.points.Goals as goal
 use Rattle.df_subsets.proofs.block.Block.points.Goals.{then-self-p-eq1, else-self-p-eq1}
 
@@ -28,4 +30,7 @@ pub returns : goal.returns
 unfolding members
 returns c =
     let end : c.loop-p.p ≡ 128 = omega arith in
-    c.loop-p.invariant.0 ∙ ap (λ n. filter (is_set c.self.inside.bits) (range_with_len 0 n)) end ∙ c.self.view_is
+    record {
+      list = c.loop-p.invariant.0 ∙ ap (λ n. filter (is_set c.self.inside.bits) (range_with_len 0 n)) end ∙ c.self.view_is;
+      block = subst (IsBlock 128) c.self.view_is (members_rise c.self.inside.bits);
+    }

@@ -1,0 +1,4 @@
+pub mod BalanceLaws
+pub mod CoverLaws
+pub mod RowLaws
+pub mod TranslateLaws

@@ -1,0 +1,36 @@
+-- The laws of difference families.
+use Rattle.std.specs.Prelude.{◌≡◌, ◌↔◌, ℕ, ◌+◌, ◌*◌, ◌/◌, ◌%◌, ◌<◌, Bool, true, List, filter, length}
+use Rattle.std.specs.List.{range_with_len}
+use Rattle.df_lists.specs.Membership.{In}
+use Rattle.df_lists.specs.NumberSets.{has_member, IsSet}
+use Rattle.df_group.specs.Elements.{order_of, group_of, minus}
+use Rattle.df_lang.specs.declared.parts.Kind.TheVariants as kinds
+use Rattle.df_lang.specs.declared.parts.Member.{Member}
+use Rattle.df_lang.specs.Problems.{Stated, IsStated, point_count}
+use Rattle.df_lang.specs.Balance.{IsBalanced}
+use Rattle.df_family.specs.declared.table.Row.{Row}
+use Rattle.df_family.specs.Translates.{shifted, translate, stabilizer}
+use Rattle.df_family.specs.Developments.{translates, develop}
+use Rattle.df_family.specs.Tables.{rows, occurs, IsAsStated}
+use Rattle.df_family.specs.Verdicts.{verdict_on, is_accepted}
+
+-- each row is found as often as is stated exactly where the development is balanced
+abbrev pub BalanceLaw : Type 0
+BalanceLaw = (s : Stated) → IsStated s → IsAsStated s ↔ IsBalanced s (develop s)
+
+-- a verdict accepts exactly where the development is balanced
+abbrev pub VerdictLaw : Type 0
+VerdictLaw = (s : Stated) → IsStated s → (is_accepted (verdict_on s) ≡ true) ↔ IsBalanced s (develop s)
+
+-- the number of translations that fix a block divides how often the block has a row
+abbrev pub DivisionLaw : Type 0
+DivisionLaw = (s : Stated) → IsStated s → (block : List ℕ) → IsSet (point_count s) block → (row : Row) → In (rows s) row → (times : ℕ) × (occurs s row block ≡ stabilizer s block * times)
+
+-- a block has as many different translates as the order divided by the number of translations that fix it, without rest
+abbrev pub LengthLaw : Type 0
+LengthLaw = (s : Stated) → IsStated s → (block : List ℕ) → IsSet (point_count s) block
+    → order_of s.group ≡ stabilizer s block * length (translates s record { kind = kinds.Short; block = block })
+
+-- block + g holds a point exactly where the block holds the point that -g carries it to
+abbrev pub PreimageLaw : Type 0
+PreimageLaw = (s : Stated) → IsStated s → (block : List ℕ) (g p : ℕ) → p < point_count s → has_member (translate s block g) p ≡ has_member block (shifted s ((group_of s.group).neg g) p)

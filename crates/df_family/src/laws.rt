@@ -1,0 +1,22 @@
+// The laws of difference families, each as the contract of a function without a body.
+ghost use Rattle.df_family.specs.FamilyLaws.{BalanceLaw, DivisionLaw, LengthLaw, PreimageLaw};
+
+/// Each row of the difference table is found as often as is stated exactly where the development is balanced.
+pub fn table_tells_balance()
+    ensures { BalanceLaw }
+{}
+
+/// The division of a short block's numbers leaves no rest: in each row it occurs a multiple of as often as translations fix it.
+pub fn division_leaves_no_rest()
+    ensures { DivisionLaw }
+{}
+
+/// A block has as many different translates as there are elements, divided by those whose translation fixes it.
+pub fn translates_divide_the_order()
+    ensures { LengthLaw }
+{}
+
+/// A translate by g holds the points that the translation by -g carries into the block.
+pub fn translates_hold_preimages()
+    ensures { PreimageLaw }
+{}

@@ -1,0 +1,20 @@
+//! Difference families: their developments, their difference tables, and the verdict on them.
+//! It stands on df_lang for problems, targets and balance, and on df_group and df_subsets for the arithmetic of points.
+//! The crates above use `Develop`, `Table` and `verify`, and cite the definitions of its specs/; that a verdict tells balance is a clause of `verify`.
+#![tactic(auto)]
+
+mod develop;
+mod laws;
+mod table;
+mod translate;
+mod verdict;
+
+pub use laws::{
+    division_leaves_no_rest, table_tells_balance, translates_divide_the_order,
+    translates_hold_preimages,
+};
+pub use table::Row;
+pub use verdict::Verdict;
+
+/// Memory was wanted and not there.
+pub type OutOfMemory = std::alloc::AllocError;

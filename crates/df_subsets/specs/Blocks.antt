@@ -1,0 +1,28 @@
+-- Blocks: strictly increasing lists of points.
+use Rattle.std.specs.Prelude.{◌≤◌, ◌<◌, ◌+◌, ◌==◌, ℕ, Bool, true, false, not, ◌&&◌, ◌||◌, List, [], ◌∷◌, nat_lt}
+use Rattle.df_lists.specs.NumberSets.{has_member, with_member}
+
+-- the list rises strictly, from `low` on and below v
+abbrev pub Rises : ℕ → ℕ → List ℕ → Type 0
+Rises low v [] = Unit {0}
+Rises low v (p ∷ b) = (low ≤ p) × (p < v) × Rises (p + 1) v b
+
+-- a strictly increasing list of points below v
+abbrev pub IsBlock : ℕ → List ℕ → Type 0
+IsBlock v b = Rises 0 v b
+
+-- each listed point lies below v, and none is listed twice
+abbrev pub are_apart : ℕ → List ℕ → Bool
+are_apart v [] = true
+are_apart v (p ∷ ps) = nat_lt p v && not (has_member ps p) && are_apart v ps
+
+-- the listed points, each once, in increasing order
+abbrev pub increasing : List ℕ → List ℕ
+increasing [] = []
+increasing (p ∷ ps) = with_member p (increasing ps)
+
+-- blocks are compared as lists, a proper prefix first
+abbrev pub before : List ℕ → List ℕ → Bool
+before a [] = false
+before [] (q ∷ b) = true
+before (p ∷ a) (q ∷ b) = nat_lt p q || (p == q && before a b)

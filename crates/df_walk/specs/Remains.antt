@@ -1,0 +1,43 @@
+-- What remains of the walk at a path, as a search holds it.
+use Rattle.std.specs.Prelude.{◌≡◌, ℕ, zero, suc, ◌-◌, Bool, true, false, List, [], ◌∷◌, ◌++◌, length, replicate, Option, Some, None}
+use Rattle.df_walk.specs.declared.Rules.{Rules}
+use Rattle.df_walk.specs.Systems.{System}
+use Rattle.df_walk.specs.Assignments.{Decisions}
+use Rattle.df_walk.specs.Walks.{Step, decided, entry_at, is_branch, walk}
+
+-- what remains once the paths that extend `before ++ p` are done: at each yes of p, from the last to the first, the walk with no
+abbrev pub later_walk : Rules → System → List Bool → List Bool → List Step
+later_walk rules s before [] = []
+later_walk rules s before (true ∷ p) = later_walk rules s (before ++ true ∷ []) p ++ walk rules s (before ++ false ∷ [])
+later_walk rules s before (false ∷ p) = later_walk rules s (before ++ false ∷ []) p
+
+-- what remains from p on
+abbrev pub walk_on : Rules → System → List Bool → List Step
+walk_on rules s p = walk rules s p ++ later_walk rules s [] p
+
+-- the walk comes by `before ++ p`: each proper prefix that is at least as long as `before` branches
+abbrev pub IsVisitedFrom : Rules → System → List Bool → List Bool → Type 0
+IsVisitedFrom rules s before [] = Unit {0}
+IsVisitedFrom rules s before (b ∷ p) = (is_branch (entry_at rules s before) ≡ true) × IsVisitedFrom rules s (before ++ b ∷ []) p
+
+abbrev pub IsVisited : Rules → System → List Bool → Type 0
+IsVisited rules s p = IsVisitedFrom rules s [] p
+
+-- a path as the decisions of so many columns
+abbrev pub padded : ℕ → List Bool → Decisions
+padded columns p = decided p ++ replicate (columns - length p) None
+
+-- the columns of a path, the last one first
+abbrev pub down_from : ℕ → List ℕ
+down_from zero = []
+down_from (suc n) = n ∷ down_from n
+
+abbrev pub behind_first : Bool → Option (List Bool) → Option (List Bool)
+behind_first b (Some q) = Some (b ∷ q)
+behind_first true None = Some (false ∷ [])
+behind_first false None = None
+
+-- the path with its last yes turned to no, and cut there
+abbrev pub turned : List Bool → Option (List Bool)
+turned [] = None
+turned (b ∷ p) = behind_first b (turned p)
