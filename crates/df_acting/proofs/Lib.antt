@@ -1,4 +1,5 @@
 pub mod ClassLaws
 pub mod EarliestLaws
 pub mod ImageLaws
+pub mod OntoLists
 pub mod TestLaws

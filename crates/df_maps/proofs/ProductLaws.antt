@@ -1,0 +1,166 @@
+-- The products of at most e multipliers give the residues of all products.
+use Rattle.std.proofs.Common.{◌≡◌, ℕ, suc, zero, ◌+◌, ◌*◌, ◌%◌, ◌<◌, ◌≤◌, Bool, true, false, not, List, [], ◌∷◌, ◌++◌, map, length, refl, sym, ap, ◌∙◌, subst, inl, inr, ◌⊎◌, arith, ⊎_elim, mod-lt}
+use Rattle.std.proofs.lemmas.Bool.{not-true, not_from_false, false_from_ne_true, both_ways, false≢true}
+use Rattle.std.proofs.Math.Nat.{mod-mod}
+use Rattle.std.proofs.lemmas.List.FromFn.{length-range_with_len}
+use Rattle.std.specs.List.{flat_map, range_with_len, list_any}
+use Rattle.df_lists.specs.Membership.{In, count}
+use Rattle.df_lists.specs.NumberSets.{has_member, set_of, IsSet}
+use Rattle.df_lists.specs.Totals.{one}
+use Rattle.df_lists.proofs.MemberLaws.{In-append_left, In-append_right, In-append_cases, In-map, In-map_gives, In-filter, In-filter_gives, count_some}
+use Rattle.df_lists.proofs.ListTotals.{list_total, count_total}
+use Rattle.df_acting.proofs.TestLaws.{any_from, any_gives, has_from, has_gives}
+use Rattle.df_acting.proofs.ImageLaws.{In-points, In-points_gives, filter_is_set}
+use Rattle.df_maps.specs.Products.{product_of, AllIn, products_within, products, AreProducts}
+use Rattle.std.proofs.lemmas.Nat.{mul-mod_second}
+
+pub In-flat_map : {X Y : Type 0} (f : X → List Y) (xs : List X) (x : X) (y : Y) → In xs x → In (f x) y → In (flat_map f xs) y
+In-flat_map f [] x y i j = absurd i
+In-flat_map f (z ∷ xs) x y (inl e) j = In-append_left (f z) (flat_map f xs) y (subst (λ w. In (f w) y) (sym e) j)
+In-flat_map f (z ∷ xs) x y (inr i) j = In-append_right (f z) (flat_map f xs) y (In-flat_map f xs x y i j)
+
+pub In-flat_map_gives : {X Y : Type 0} (f : X → List Y) (xs : List X) (y : Y) → In (flat_map f xs) y → (x : X) × In xs x × In (f x) y
+In-flat_map_gives f [] y i = absurd i
+In-flat_map_gives f (z ∷ xs) y i =
+    ⊎_elim (λ j. (z, inl refl, j)) (λ j. let r = In-flat_map_gives f xs y j in (r.0, inr r.1, r.2)) (In-append_cases (f z) (flat_map f xs) y i)
+
+pub In-set_of : (v : ℕ) (xs : List ℕ) (r : ℕ) → r < v → In xs r → In (set_of v xs) r
+In-set_of v xs r h i = In-filter (has_member xs) (range_with_len 0 v) r (In-points v r h) (has_from xs r i)
+
+pub In-set_of_gives : (v : ℕ) (xs : List ℕ) (r : ℕ) → In (set_of v xs) r → (r < v) × In xs r
+In-set_of_gives v xs r i = let h = In-filter_gives (has_member xs) (range_with_len 0 v) r i in (In-points_gives v r h.0, has_gives xs r h.1)
+
+-- a test that passes less often
+one_most : (a b : Bool) → (a ≡ true → b ≡ true) → one a ≤ one b
+one_most false b h = omega arith
+one_most true b h = rw (h refl) (omega arith)
+
+total_most : {X : Type 0} (f g : X → ℕ) (xs : List X) → ((x : X) → In xs x → f x ≤ g x) → list_total f xs ≤ list_total g xs
+total_most f g [] h = omega arith
+total_most f g (x ∷ xs) h = omega (arith, h x (inl refl), total_most f g xs (λ y i. h y (inr i)))
+
+total_less : {X : Type 0} (f g : X → ℕ) (xs : List X) (x : X) → ((x : X) → In xs x → f x ≤ g x) → In xs x → f x < g x → list_total f xs < list_total g xs
+total_less f g [] x h i l = absurd i
+total_less f g (y ∷ xs) x h (inl e) l =
+    let here : f y < g y = subst (λ w. f w < g w) (sym e) l in
+    omega (arith, here, total_most f g xs (λ z i. h z (inr i)))
+total_less f g (y ∷ xs) x h (inr i) l = omega (arith, h y (inl refl), total_less f g xs x (λ z j. h z (inr j)) i l)
+
+pub count_most : {X : Type 0} (s t : X → Bool) (xs : List X) → ((x : X) → In xs x → s x ≡ true → t x ≡ true) → count s xs ≤ count t xs
+count_most s t xs h = omega (arith, count_total s xs, count_total t xs, total_most (λ x. one (s x)) (λ x. one (t x)) xs (λ x i. one_most (s x) (t x) (h x i)))
+
+pub count_less : {X : Type 0} (s t : X → Bool) (xs : List X) (x : X) → ((x : X) → In xs x → s x ≡ true → t x ≡ true) → In xs x → s x ≡ false → t x ≡ true → count s xs < count t xs
+count_less s t xs x h i e f =
+    let here : one (s x) < one (t x) = rw (e, f) (omega arith) in
+    omega (arith, count_total s xs, count_total t xs, total_less (λ x. one (s x)) (λ x. one (t x)) xs x (λ y j. one_most (s y) (t y) (h y j)) i here)
+
+count_whole : {X : Type 0} (t : X → Bool) (xs : List X) → count t xs ≤ length xs
+count_whole t xs = let e = all_pass xs in omega (arith, e, count_most t (λ x. true) xs (λ x i h. refl))
+  where
+    all_pass : {X : Type 0} (xs : List X) → count (λ x. true) xs ≡ length xs
+    all_pass [] = refl
+    all_pass (x ∷ xs) = ap suc (all_pass xs)
+
+-- a set of numbers below v has v members at most, and a set that lacks one of another's has fewer
+pub set_long : (v : ℕ) (b : List ℕ) → IsSet v b → length b ≤ v
+set_long v b is = let e = ap length is in omega (arith, e, count_whole (has_member b) (range_with_len 0 v), length-range_with_len 0 v)
+
+pub set_less : (v : ℕ) (a b : List ℕ) (p : ℕ) → IsSet v a → IsSet v b → ((q : ℕ) → In a q → In b q) → In b p → has_member a p ≡ false → length a < length b
+set_less v a b p s t h i out =
+    let below : p < v = In-points_gives v p (In-filter_gives (has_member b) (range_with_len 0 v) p (subst (λ l. In l p) t i)).0 in
+    omega (arith, ap length s, ap length t, count_less (has_member a) (has_member b) (range_with_len 0 v) p (λ q j e. has_from b q (h q (has_gives a q e))) (In-points v p below) out (has_from b p i))
+
+module _ (e : ℕ) (stated : List ℕ) (pos : 0 < e) where
+  within : ℕ → List ℕ
+  within n = products_within e stated n
+
+  abbrev more : ℕ → List ℕ
+  more n = flat_map (λ m. map (λ r. (m * r) % e) (products_within e stated n)) stated
+
+  within_set : (n : ℕ) → IsSet e (products_within e stated n)
+  within_set zero = filter_is_set (has_member (1 % e ∷ [])) e
+  within_set (suc n) = filter_is_set (has_member (1 % e ∷ more n)) e
+
+  one_in : (n : ℕ) → In (products_within e stated n) (1 % e)
+  one_in zero = In-set_of e (1 % e ∷ []) (1 % e) (mod-lt 1 pos) (inl refl)
+  one_in (suc n) = In-set_of e (1 % e ∷ more n) (1 % e) (mod-lt 1 pos) (inl refl)
+
+  step_in : (n m r : ℕ) → In stated m → In (products_within e stated n) r → In (products_within e stated (suc n)) ((m * r) % e)
+  step_in n m r i j = In-set_of e (1 % e ∷ more n) ((m * r) % e) (mod-lt (m * r) pos) (inr (In-flat_map (λ m. map (λ r. (m * r) % e) (products_within e stated n)) stated m ((m * r) % e) i (In-map (λ r. (m * r) % e) (products_within e stated n) r j)))
+
+  -- 1, or a multiplier times a product of fewer
+  step_cases : (n r : ℕ) → In (products_within e stated (suc n)) r → (1 % e ≡ r) ⊎ ((m : ℕ) × (s : ℕ) × In stated m × In (products_within e stated n) s × ((m * s) % e ≡ r))
+  step_cases n r i = go (In-set_of_gives e (1 % e ∷ more n) r i).1
+    where
+      go : In (1 % e ∷ more n) r → (1 % e ≡ r) ⊎ ((m : ℕ) × (s : ℕ) × In stated m × In (products_within e stated n) s × ((m * s) % e ≡ r))
+      go (inl h) = inl h
+      go (inr j) =
+          let m = In-flat_map_gives (λ m. map (λ r. (m * r) % e) (products_within e stated n)) stated r j in
+          let s = In-map_gives (λ r. (m.0 * r) % e) (products_within e stated n) r m.2 in
+          inr (m.0, s.0, m.1, s.1, s.2)
+
+  grows : (n r : ℕ) → In (products_within e stated n) r → In (products_within e stated (suc n)) r
+  grows zero r i = go (In-set_of_gives e (1 % e ∷ []) r i).1
+    where
+      go : In (1 % e ∷ []) r → In (products_within e stated 1) r
+      go (inl h) = subst (In (products_within e stated 1)) h (one_in 1)
+      go (inr j) = absurd j
+  grows (suc n) r i =
+      ⊎_elim (λ h. subst (In (products_within e stated (suc (suc n)))) h (one_in (suc (suc n))))
+      (λ s. subst (In (products_within e stated (suc (suc n)))) s.4 (step_in (suc n) s.0 s.1 s.2 (grows n s.1 s.3)))
+      (step_cases n r i)
+
+  inside : (n r : ℕ) → In (products_within e stated n) r → (ms : List ℕ) × AllIn stated ms × (product_of ms % e ≡ r)
+  inside zero r i = go (In-set_of_gives e (1 % e ∷ []) r i).1
+    where
+      go : In (1 % e ∷ []) r → (ms : List ℕ) × AllIn stated ms × (product_of ms % e ≡ r)
+      go (inl h) = ([], tt, h)
+      go (inr j) = absurd j
+  inside (suc n) r i =
+      ⊎_elim (λ h. ([], tt, h))
+      (λ s. let ms = inside n s.1 s.3 in (s.0 ∷ ms.0, (s.2, ms.1), sym (mul-mod_second s.0 (product_of ms.0) e) ∙ ap (λ k. (s.0 * k) % e) ms.2 ∙ s.4))
+      (step_cases n r i)
+
+  -- one more multiplier gives nothing new
+  abbrev IsClosed : ℕ → Type 0
+  IsClosed n = (r : ℕ) → In (products_within e stated (suc n)) r → In (products_within e stated n) r
+
+  closed_next : (n : ℕ) → IsClosed n → IsClosed (suc n)
+  closed_next n c r i =
+      ⊎_elim (λ h. subst (In (products_within e stated (suc n))) h (one_in (suc n)))
+      (λ s. subst (In (products_within e stated (suc n))) s.4 (step_in n s.0 s.1 s.2 (c s.1 s.3)))
+      (step_cases (suc n) r i)
+
+  closed_or_more : (n : ℕ) → IsClosed n ⊎ (length (products_within e stated n) < length (products_within e stated (suc n)))
+  closed_or_more n = go (list_any new (products_within e stated (suc n))) refl
+    where
+      new : ℕ → Bool
+      new r = not (has_member (products_within e stated n) r)
+
+      go : (b : Bool) → list_any (λ r. not (has_member (products_within e stated n) r)) (products_within e stated (suc n)) ≡ b → IsClosed n ⊎ (length (products_within e stated n) < length (products_within e stated (suc n)))
+      go true h =
+          let r = any_gives (λ r. not (has_member (products_within e stated n) r)) (products_within e stated (suc n)) h in
+          inr (set_less e (products_within e stated n) (products_within e stated (suc n)) r.0 (within_set n) (within_set (suc n)) (grows n) r.1 (not-true (has_member (products_within e stated n) r.0) r.2))
+      go false h = inl (λ r i. has_gives (products_within e stated n) r (held r i (has_member (products_within e stated n) r) refl))
+        where
+          held : (r : ℕ) → In (products_within e stated (suc n)) r → (b : Bool) → has_member (products_within e stated n) r ≡ b → has_member (products_within e stated n) r ≡ true
+          held r i true k = k
+          held r i false k = absurd (both_ways (list_any (λ r. not (has_member (products_within e stated n) r)) (products_within e stated (suc n))) h (any_from (λ r. not (has_member (products_within e stated n) r)) (products_within e stated (suc n)) r i (not_from_false (has_member (products_within e stated n) r) k)))
+
+  closed_or_long : (n : ℕ) → IsClosed n ⊎ (n < length (products_within e stated n))
+  closed_or_long zero = inr (let l = count_some (has_member (products_within e stated zero)) (products_within e stated zero) (1 % e) (one_in zero) (has_from (products_within e stated zero) (1 % e) (one_in zero)) in omega (arith, l, count_whole (has_member (products_within e stated zero)) (products_within e stated zero)))
+  closed_or_long (suc n) =
+      ⊎_elim (λ c. inl (closed_next n c))
+      (λ l. ⊎_elim (λ c. inl (closed_next n c)) (λ k. inr (omega (arith, l, k))) (closed_or_more n))
+      (closed_or_long n)
+
+  closed : IsClosed e
+  closed = ⊎_elim (λ c. c) (λ l. absurd (let h = set_long e (products_within e stated e) (within_set e) in omega (arith, l, h))) (closed_or_long e)
+
+  all_in : (ms : List ℕ) → AllIn stated ms → In (products_within e stated e) (product_of ms % e)
+  all_in [] i = one_in e
+  all_in (m ∷ ms) i = closed ((m * product_of ms) % e) (subst (In (products_within e stated (suc e))) (mul-mod_second m (product_of ms) e) (step_in e m (product_of ms % e) i.0 (all_in ms i.1)))
+
+  pub products_are : AreProducts e stated (products e stated)
+  unfolding products
+  products_are = record { set = within_set e; inside = inside e; all = all_in }

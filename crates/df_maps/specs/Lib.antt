@@ -1,0 +1,3 @@
+pub mod FullMaps
+pub mod Laws
+pub mod Products
