@@ -1,2 +1,3 @@
 pub mod ElementParts
 pub mod Factors
+pub mod NamePlaces
