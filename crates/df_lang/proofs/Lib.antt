@@ -1,2 +1,5 @@
 pub mod ElementParts
 pub mod Factors
+pub mod KeptOnce
+pub mod NamePlaces
+pub mod SizesRise

@@ -1,4 +1,5 @@
 pub mod Balance
+pub mod Drafts
 pub mod Names
 pub mod Pieces
 pub mod Problems

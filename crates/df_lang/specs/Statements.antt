@@ -10,7 +10,7 @@ use Rattle.df_lang.specs.declared.parts.Word.{Word}
 use Rattle.df_lang.specs.declared.parts.Word.TheVariants as word
 use Rattle.df_lang.specs.Rules.{◌>>=◌, allowed, once, one_number}
 use Rattle.df_lang.specs.StandsAbove.{Above, group_of, sizes_of, fixed_of, version_of}
-use Rattle.df_lang.specs.Values.{factors_from, subgroup_of, shift_of, mults_of, sizes_read, inside_of, points_from}
+use Rattle.df_lang.specs.Values.{factors_from, subgroup_of, shift_of, mults_from, sizes_read, inside_of, points_from}
 
 -- the version, which is 2 where it is stated
 unfoldable pub version_line : Above → List (List ℕ) → Result Above SourceFault
@@ -34,7 +34,7 @@ shift_line a tokens = once a.shift >>= λ _. group_of a >>= λ _. shift_of a.nam
 
 -- the multipliers
 unfoldable pub mult_line : Above → List (List ℕ) → Result Above SourceFault
-mult_line a tokens = once a.mults >>= λ _. group_of a >>= λ fs. mults_of (exponent_of fs) tokens >>= λ ms. Ok (record a { mults = Some ms })
+mult_line a tokens = once a.mults >>= λ _. group_of a >>= λ fs. mults_from (exponent_of fs) [] tokens >>= λ ms. Ok (record a { mults = Some ms })
 
 -- the sizes of the blocks: at most 16, and at most the number of points stated above
 unfoldable pub size_line : Above → List (List ℕ) → Result Above SourceFault

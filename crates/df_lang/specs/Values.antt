@@ -82,14 +82,10 @@ shift_of names tokens = next tokens (λ first rest. which_of names first >>= λ 
 abbrev pub kept_once : List ℕ → ℕ → List ℕ
 kept_once ms m = if has_member ms m then ms else ms ++ m ∷ []
 
--- the multipliers so far and those of these tokens, prime to the exponent e and reduced by it
+-- the multipliers so far and those of these tokens, at least one together: prime to the exponent e and reduced by it
 unfoldable pub mults_from : ℕ → List ℕ → List (List ℕ) → Result (List ℕ) SourceFault
-mults_from e ms [] = Ok ms
+mults_from e ms [] = must (nat_lt 0 (length ms)) BadWord ms
 mults_from e ms (token ∷ tokens) = number_of token >>= λ m. must (is_unit e m) NotUnit (kept_once ms (m % e)) >>= λ more. mults_from e more tokens
-
--- at least one multiplier
-unfoldable pub mults_of : ℕ → List (List ℕ) → Result (List ℕ) SourceFault
-mults_of e tokens = next tokens (λ first rest. mults_from e [] tokens)
 
 -- the set of the sizes so far and of those of these tokens
 unfoldable pub sizes_from : ℕ → List ℕ → List (List ℕ) → Result (List ℕ) SourceFault

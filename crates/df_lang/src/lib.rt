@@ -3,12 +3,19 @@
 //! The crates above see a `Problem` as a record of numbers and lists, and cite its target and the balance of a list of blocks.
 #![tactic(auto)]
 
+mod blocks;
+mod draft;
 mod elements;
 mod fault;
 mod groups;
+mod lookups;
+mod multipliers;
 mod names;
 mod parts;
 mod problem;
+mod reader;
+mod sizes;
+mod statements;
 mod tokens;
 mod words;
 

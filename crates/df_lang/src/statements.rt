@@ -1,0 +1,90 @@
+// Takes the statements of a source, one by one.
+ghost use Rattle.std.specs.Prelude.{◌≡◌, ◌≤◌, ◌<◌, ◌∷◌, [], length};
+ghost use Rattle.df_io.specs.Lines.{left};
+ghost use Rattle.df_lang.specs.Drafts.{above, Goes, GoesOn};
+ghost use Rattle.df_lang.specs.Values.{shift_of, inside_of};
+ghost use Rattle.df_lang.specs.Statements.{fixed_line, shift_line, lambda_line, inside_line, hole_line};
+
+use crate::draft::Draft;
+use crate::fault::{SourceFault, Stop};
+use crate::lookups::which;
+use crate::parts::{Inside, Which};
+use crate::tokens::{end, needed, number_in, one_number};
+use df_io::Tokens;
+
+impl Draft {
+    /// The line of `fixed`.
+    #[tactic(auto, unfolding(crate::specs::Statements::fixed_line))]
+    pub(crate) fn fixed(&mut self, tokens: &mut Tokens<'_>) -> Result<(), SourceFault>
+        ensures { Goes (fixed_line (above self.old) (left tokens.old)) (above self.new) result }
+    {
+        if self.fixed.is_some() {
+            return Err(SourceFault::Repeated);
+        }
+        let most = (128 - self.shape.order()).min(16);
+        let fixed = one_number(0, u64::from(most), SourceFault::FixedRange, tokens)?;
+        self.fixed = Some(fixed as u8);
+        Ok(())
+    }
+
+    /// The line of `shift`.
+    #[tactic(auto, unfolding(crate::specs::Statements::shift_line, crate::specs::Values::shift_of))]
+    pub(crate) fn shift(&mut self, tokens: &mut Tokens<'_>) -> Result<(), SourceFault>
+        ensures { Goes (shift_line (above self.old) (left tokens.old)) (above self.new) result }
+    {
+        if self.shift.is_some() {
+            return Err(SourceFault::Repeated);
+        }
+        let token = needed(tokens)?;
+        let subgroup = which(&self.names, token)?;
+        end(tokens)?;
+        self.shift = Some(subgroup);
+        Ok(())
+    }
+
+    /// The line of `lambda`.
+    #[tactic(auto, unfolding(crate::specs::Statements::lambda_line))]
+    pub(crate) fn lambda(&mut self, tokens: &mut Tokens<'_>) -> Result<(), SourceFault>
+        ensures { Goes (lambda_line (above self.old) (left tokens.old)) (above self.new) result }
+    {
+        if self.lambda.is_some() {
+            return Err(SourceFault::Repeated);
+        }
+        let target = one_number(0, 2_000_000, SourceFault::TargetRange, tokens)?;
+        self.lambda = Some(target as u32);
+        Ok(())
+    }
+
+    /// The line of `inside`.
+    #[tactic(auto, unfolding(crate::specs::Statements::inside_line, crate::specs::Values::inside_of))]
+    pub(crate) fn inside(&mut self, tokens: &mut Tokens<'_>) -> Result<(), SourceFault>
+        ensures { Goes (inside_line (above self.old) (left tokens.old)) (above self.new) result }
+    {
+        if self.inside.is_some() {
+            return Err(SourceFault::Repeated);
+        }
+        let first = needed(tokens)?;
+        let subgroup = which(&self.names, first)?;
+        let second = needed(tokens)?;
+        let target = number_in(0, 2_000_000, SourceFault::TargetRange, second)?;
+        end(tokens)?;
+        self.inside = Some(Inside {
+            subgroup,
+            target: target as u32,
+        });
+        Ok(())
+    }
+
+    /// The line of `hole`.
+    #[tactic(auto, unfolding(crate::specs::Statements::hole_line))]
+    pub(crate) fn hole(&mut self, tokens: &mut Tokens<'_>) -> Result<(), SourceFault>
+        ensures { Goes (hole_line (above self.old) (left tokens.old)) (above self.new) result }
+    {
+        if self.hole.is_some() {
+            return Err(SourceFault::Repeated);
+        }
+        let target = one_number(0, 2_000_000, SourceFault::TargetRange, tokens)?;
+        self.hole = Some(target as u32);
+        Ok(())
+    }
+}
