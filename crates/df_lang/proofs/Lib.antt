@@ -1,2 +1,4 @@
+pub mod Behind
 pub mod ElementParts
 pub mod Factors
+pub mod Lengths

@@ -1,4 +1,5 @@
 pub mod Balance
+pub mod Canonical
 pub mod Names
 pub mod Pieces
 pub mod Problems
@@ -6,6 +7,7 @@ pub mod Rules
 pub mod Sources
 pub mod StandsAbove
 pub mod Statements
+pub mod Separated
 pub mod Stored
 pub mod Targets
 pub mod Values
