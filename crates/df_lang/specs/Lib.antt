@@ -1,9 +1,11 @@
 pub mod Balance
+pub mod Canonical
 pub mod Drafts
 pub mod Names
 pub mod Pieces
 pub mod Problems
 pub mod Rules
+pub mod Separated
 pub mod Sources
 pub mod StandsAbove
 pub mod Statements

@@ -12,13 +12,16 @@ mod lookups;
 mod multipliers;
 mod names;
 mod parts;
+mod print;
 mod problem;
 mod reader;
 mod sizes;
 mod statements;
+mod texts;
 mod tokens;
 mod words;
 
 pub use fault::{Needed, ParseError, SourceError, SourceFault};
 pub use parts::{Inside, Kind, Member, Name, Which};
 pub use problem::Problem;
+pub use texts::{block_text_is_short, point_text_is_short, put_block, put_point};
