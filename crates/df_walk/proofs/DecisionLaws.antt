@@ -1,7 +1,10 @@
 -- What one decision does to what is taken and to the cap.
-use Rattle.std.proofs.Common.{◌≡◌, ℕ, suc, zero, ◌+◌, ◌*◌, ◌≤◌, Bool, true, false, List, [], ◌∷◌, length, get_or, set, Option, Some, None, refl, arith}
+use Rattle.std.proofs.Common.{◌≡◌, ℕ, suc, zero, ◌+◌, ◌*◌, ◌≤◌, Bool, true, false, List, [], ◌∷◌, length, get_or, set, drop, Option, Some, None, refl, ap, arith, ◌<◌}
 use Rattle.std.specs.Prelude.{slice_get}
-use Rattle.df_walk.specs.Assignments.{Decisions, taken, cap}
+use Rattle.df_walk.specs.Systems.{System, entries, entry}
+use Rattle.df_walk.specs.Assignments.{Decisions, open_values, taken, cap}
+use Rattle.df_walk.specs.Walks.{decided}
+use Rattle.df_walk.proofs.EntryLaws.{length-entries}
 
 -- a yes takes the entry
 pub taken-set_yes : (es : List ℕ) (ds : Decisions) (c : ℕ) → slice_get ds c ≡ Some None → taken es (set ds c (Some true)) ≡ taken es ds + get_or es c 0
@@ -43,3 +46,21 @@ taken_cap_le (e ∷ es) [] = omega arith
 taken_cap_le (e ∷ es) (None ∷ ds) = omega (arith, taken_cap_le es ds)
 taken_cap_le (e ∷ es) (Some true ∷ ds) = omega (arith, taken_cap_le es ds)
 taken_cap_le (e ∷ es) (Some false ∷ ds) = omega (arith, taken_cap_le es ds)
+
+-- past a path stand the undecided columns
+pub open_values-decided : (es : List ℕ) (p : List Bool) → open_values es (decided p) ≡ drop (length p) es
+open_values-decided [] [] = refl
+open_values-decided [] (b ∷ p) = refl
+open_values-decided (e ∷ es) [] = ap (λ l. e ∷ l) (open_values-decided es [])
+open_values-decided (e ∷ es) (b ∷ p) = open_values-decided es p
+
+cap_bounded : (es : List ℕ) (most : ℕ) → ((k : ℕ) → k < length es → get_or es k 0 ≤ most) → cap es [] ≤ most * length es
+cap_bounded [] most h = omega arith
+cap_bounded (e ∷ es) most h = omega (arith, h 0 (omega arith), cap_bounded es most (λ k l. h (suc k) (omega arith)))
+
+pub sums_bounded : (s : System) (ds : Decisions) (row most : ℕ) → ((column : ℕ) → column < length s.columns → entry s row column ≤ most) → taken (entries s row) ds + cap (entries s row) ds ≤ most * length s.columns
+sums_bounded s ds row most h =
+    let long = length-entries s row in
+    let bound = cap_bounded (entries s row) most (λ k l. h k (omega arith)) in
+    let same = ap (λ n. most * n) long in
+    omega (arith, taken_cap_le (entries s row) ds)

@@ -31,8 +31,8 @@ column_of s column ok h = column_at (length s.targets) s.columns column ok.colum
 first_positive : (n : ℕ) (column : List Cell) → IsColumn n column → (row : ℕ) × (row < n) × (0 < entry_of column row)
 first_positive n [] ok = absurd (omega (arith, ok.some))
 first_positive n (cell ∷ column) ok =
-    let within = ok.in_range 0 cell (omega arith) in
-    let positive = ok.positive 0 cell (omega arith) in
+    let within = ok.cells.in_range 0 cell (omega arith) in
+    let positive = ok.cells.positive 0 cell (omega arith) in
     (cell.row, within, rw (eq-eqb cell.row cell.row refl) (omega arith))
 
 -- each column has a positive entry

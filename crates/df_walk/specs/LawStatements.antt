@@ -1,10 +1,10 @@
 -- The laws of systems, walks and logs. Each is the contract of a function of this crate.
-use Rattle.std.specs.Prelude.{◌≡◌, ◌↔◌, ℕ, ◌+◌, ◌*◌, ◌%◌, ◌<◌, ◌≤◌, Bool, true, false, not, List, [], ◌∷◌, ◌++◌, length, map, filter, replicate, Some, None, slice_get, slice_set}
+use Rattle.std.specs.Prelude.{◌≡◌, ◌↔◌, ℕ, ◌+◌, ◌*◌, ◌%◌, ◌<◌, ◌≤◌, Bool, true, false, not, List, [], ◌∷◌, ◌++◌, length, map, filter, replicate, drop, Some, None, slice_get, slice_set}
 use Rattle.std.specs.List.Sorted.{IsPermutation}
 use Rattle.df_walk.specs.declared.Rules.{Rules}
 use Rattle.df_walk.specs.declared.Entry.{Entry}
 use Rattle.df_walk.specs.Systems.{System, IsSystem, entries, entry, target}
-use Rattle.df_walk.specs.Assignments.{Decisions, taken, cap, divisor, is_settled}
+use Rattle.df_walk.specs.Assignments.{Decisions, taken, cap, divisor, common_divisor, is_settled}
 use Rattle.df_walk.specs.Solutions.{keeps, is_solution, solutions, solutions_with, yes_vector, chosen_columns}
 use Rattle.df_walk.specs.Walks.{Step, decided, walk, solutions_in, nodes_in, entries_in}
 use Rattle.df_walk.specs.Paths.{is_node, nodes, not_before, rest, load}
@@ -28,6 +28,14 @@ pub record NeedIsWithin (s : System) (ds : Decisions) (row : ℕ) : Type 0 where
 
 abbrev pub SolutionsBoundNeeds : Type 0
 SolutionsBoundNeeds = (s : System) (ds : Decisions) (x : List Bool) (row : ℕ) → is_solution s x ≡ true → keeps ds x ≡ true → row < length s.targets → NeedIsWithin s ds row
+
+-- the divisor of a row at a path is that of the columns past it
+abbrev pub PathsHaveDivisors : Type 0
+PathsHaveDivisors = (s : System) (p : List Bool) (row : ℕ) → divisor (entries s row) (decided p) ≡ common_divisor (drop (length p) (entries s row))
+
+-- needs and caps are no greater than the greatest entry, once for each column
+abbrev pub SumsAreBounded : Type 0
+SumsAreBounded = (s : System) (ds : Decisions) (row most : ℕ) → ((column : ℕ) → column < length s.columns → entry s row column ≤ most) → taken (entries s row) ds + cap (entries s row) ds ≤ most * length s.columns
 
 -- the solutions with a path are those with it and yes, followed by those with it and no
 abbrev pub PathsSplit : Type 0

@@ -34,12 +34,16 @@ target s row = slice_index s.targets row
 abbrev pub cells : System → ℕ → List Cell
 cells s column = slice_index_or s.columns column []
 
--- a column has its positive entries, at least one, in the order of their rows
-pub record IsColumn (rows : ℕ) (column : List Cell) : Type 0 where
-  pub some : 0 < length column
+-- cells as they stand in a column: positive, in the order of their rows
+pub record AreCells (rows : ℕ) (column : List Cell) : Type 0 where
   pub in_range : All (λ cell. cell.row < rows) column
   pub positive : All (λ cell. 0 < cell.value) column
   pub increasing : IsStrictlyIncreasing (map (λ cell. cell.row) column)
+
+-- a column has at least one
+pub record IsColumn (rows : ℕ) (column : List Cell) : Type 0 where
+  pub some : 0 < length column
+  pub cells : AreCells rows column
 
 -- each column is one
 pub record IsSystem (s : System) : Type 0 where

@@ -1,6 +1,8 @@
 ghost use Rattle.df_walk.specs.LawStatements.{
   DecisionsChange,
   SolutionsBoundNeeds,
+  PathsHaveDivisors,
+  SumsAreBounded,
   PathsSplit,
   ColumnsSplit,
   SettledIsOne,
@@ -20,6 +22,16 @@ pub fn decisions_change()
 /// A solution that keeps the decisions has each need from 0 to its cap, and a multiple of the divisor.
 pub fn solutions_bound_needs()
     ensures { SolutionsBoundNeeds }
+{}
+
+/// The divisor of a row at a path is that of its columns past the path.
+pub fn paths_have_divisors()
+    ensures { PathsHaveDivisors }
+{}
+
+/// Needs and caps are no greater than the greatest entry, once for each column.
+pub fn sums_are_bounded()
+    ensures { SumsAreBounded }
 {}
 
 /// The solutions that extend a path with yes and those that extend it with no are, in this order, those that extend it.
