@@ -1,4 +1,4 @@
-pub mod Giving
+pub mod CopiedFront
 pub mod LinesOf
 pub mod Digits
 pub mod Known

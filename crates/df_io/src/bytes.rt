@@ -27,11 +27,11 @@ impl From<AllocError> for ReadError {
     }
 }
 
-/// All bytes that are left of the input, which is read to its end. They are at most `limit` bytes, and `limit` is at
-/// most 4,294,967,296.
+/// All bytes that are left of the input, which is read to its end. They are at most `limit`, and `limit` is at most
+/// 4,294,967,296.
 ///
 /// `ReadFault` comes only where the source's count of faults rises in this call, or stands at its last value.
-/// `TooLong` comes where `limit + 1` bytes came, and no call takes more. `OutOfMemory` may come at any read.
+/// `TooLong` comes exactly where `limit + 1` bytes came, and no more are read. `OutOfMemory` may come at any read.
 pub fn read_all<S: Source>(alloc: Global, input: &mut S, limit: u64) -> Result<Vec<u8>, ReadError>
     requires { limit ≤ 2 ^ 32 }
     ensures all { IfOk result (λ bytes. Consumes (S.left input.old) (S.left input.new) bytes.items) }
@@ -39,8 +39,11 @@ pub fn read_all<S: Source>(alloc: Global, input: &mut S, limit: u64) -> Result<V
     ensures fits { IfOk result (λ bytes. vec_len bytes ≤ limit) }
     ensures too_long { IsErrOf result ReadError.TooLong
         → (bytes : List ℕ) × Consumes (S.left input.old) (S.left input.new) bytes × (length bytes ≡ limit + 1) }
+    ensures before { IsErrOf result ReadError.ReadFault
+        → ConsumesAtMost (S.left input.old) (S.left input.new) limit }
     ensures taken { ConsumesAtMost (S.left input.old) (S.left input.new) (limit + 1) }
-    ensures fault { IsErrOf result ReadError.ReadFault → Rose (S.faults input.old) (S.faults input.new) }
+    ensures fault { IsErrOf result ReadError.ReadFault
+        → Rose (S.faults input.old) (S.faults input.new) }
     ensures later { S.faults input.old ≤ S.faults input.new }
 {
     let mut bytes = Vec::new(alloc);

@@ -6,6 +6,7 @@
 #![tactic(auto)]
 
 mod bytes;
+mod giving;
 mod laws;
 mod lines;
 mod mem;
