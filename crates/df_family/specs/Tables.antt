@@ -1,5 +1,5 @@
 -- The difference table: how often each kind of pair is found in a family, and how often that is stated.
-use Rattle.std.specs.Prelude.{◌≡◌, ◌==◌, ℕ, ◌+◌, ◌-◌, ◌/◌, Bool, not, List, ◌++◌, map, filter, length, sum_by, count_by, get_or, if◌then◌else◌}
+use Rattle.std.specs.Prelude.{◌≡◌, ◌==◌, ℕ, ◌<◌, ◌≤◌, ◌+◌, ◌-◌, ◌/◌, Bool, not, List, ◌++◌, map, filter, length, sum_by, count_by, get_or, if◌then◌else◌}
 use Rattle.std.specs.List.{range_with_len, flat_map}
 use Rattle.df_lists.specs.Membership.{In}
 use Rattle.df_lists.specs.NumberSets.{has_member}
@@ -18,6 +18,16 @@ use Rattle.df_family.specs.Translates.{stabilizer}
 -- the point that is the fixed point of this number, from 1
 abbrev pub fixed_point : Stated → ℕ → ℕ
 fixed_point s i = order_of s.group + (i - 1)
+
+-- a fixed point that is stated, by its number from 1
+abbrev pub IsFixed : Stated → ℕ → Type 0
+IsFixed s i = (1 ≤ i) × (i ≤ s.fixed)
+
+-- a row of a problem: of an element of its group, or of its fixed points
+abbrev pub IsRow : Stated → Row → Type 0
+IsRow s (Diff d) = d < order_of s.group
+IsRow s (WithFixed i) = IsFixed s i
+IsRow s (TwoFixed i j) = IsFixed s i × IsFixed s j
 
 -- a row for each element but 0
 abbrev pub differences : Stated → List Row
