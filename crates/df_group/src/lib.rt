@@ -7,6 +7,8 @@ mod laws;
 mod residues;
 mod shape;
 mod subgroup;
+#[cfg(test)]
+mod tests;
 
 pub use laws::{
     elements_are_numbered, multiples_are_multiples, products_are_groups, subgroups_are_closed,
