@@ -1,5 +1,5 @@
 -- Canonical generators: they generate the subgroup, and each one at least doubles it.
-use Rattle.std.proofs.Common.{◌≡◌, ℕ, zero, suc, ◌+◌, ◌-◌, ◌*◌, ◌^◌, ◌<◌, ◌≤◌, Bool, true, false, cond, List, [], ◌∷◌, ◌++◌, length, filter, if◌then◌else◌, ◌⊎◌, refl, sym, ap, ◌∙◌, inl, inr, ⊎_elim, subst, arith, append_assoc, length-append}
+use Rattle.std.proofs.Common.{All, get_or, ◌≡◌, ℕ, zero, suc, ◌+◌, ◌-◌, ◌*◌, ◌^◌, ◌<◌, ◌≤◌, Bool, true, false, cond, List, [], ◌∷◌, ◌++◌, length, filter, if◌then◌else◌, ◌⊎◌, refl, sym, ap, ◌∙◌, inl, inr, ⊎_elim, subst, arith, append_assoc, length-append}
 use Rattle.std.proofs.Math.Nat.{pow-suc, pow-le-pow_right}
 use Rattle.std.proofs.lemmas.Bool.{both_ways, cases_lt}
 use Rattle.std.specs.List.{range_with_len}
@@ -40,6 +40,11 @@ ones_within t (suc n) = let a = ones_within t n in elim (t n) as (λ v. total (�
 pub record AreTaken (fs taken : List ℕ) : Type 0 where
   pub below : (g : ℕ) → In taken g → g < order_of fs
   pub doubled : 2 ^ length taken ≤ length (generated fs taken)
+
+In-place : (xs : List ℕ) (k d : ℕ) → k < length xs → In xs (get_or xs k d)
+In-place [] k d l = absurd (omega arith)
+In-place (x ∷ xs) zero d l = inl refl
+In-place (x ∷ xs) (suc k) d l = inr (In-place xs k d (omega arith))
 
 module _ (fs : List ℕ) (is : IsShape fs) where
   pub generated_size : (gs : List ℕ) → length (generated fs gs) ≡ total (λ i. one (has_member (sums fs gs) i)) (order_of fs)
@@ -177,6 +182,10 @@ module _ (fs : List ℕ) (is : IsShape fs) where
 
   pub taken_few : (taken : List ℕ) → AreTaken fs taken → length taken ≤ 7
   taken_few taken are = few_from_size (length taken) (length (generated fs taken)) are.doubled (omega (arith, generated_within taken, is.small))
+
+  -- the same by places
+  pub taken_below : (taken : List ℕ) → AreTaken fs taken → All (λ g. g < order_of fs) taken
+  taken_below taken are k d l = are.below (get_or taken k d) (In-place taken k d l)
 
   -- one more generator still fits
   pub taken_fewer : (taken : List ℕ) (e : ℕ) → AreTaken fs taken → e < order_of fs → has_member (generated fs taken) e ≡ false → length taken < 7

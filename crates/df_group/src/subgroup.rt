@@ -40,7 +40,8 @@ impl Subgroup {
     /// The subgroup of these generators, which are below the order: all sums of their multiples. Without generators it holds 0 alone.
     pub fn generate(shape: &Shape, generators: &[Elem]) -> Subgroup
         requires { All (λ g. g < order_of shape.now) generators.now }
-        ensures { result ≡ generated shape.now generators.now }
+        ensures generated { result ≡ generated shape.now generators.now }
+        ensures subgroup { IsSubgroup shape.now result }
     {
         let mut subgroup = Subgroup::trivial(shape);
         for i in (0..generators.len()).rev() {
@@ -57,6 +58,7 @@ impl Subgroup {
     pub fn trivial(shape: &Shape) -> Subgroup
         ensures members { result ≡ 0 ∷ [] }
         ensures generated { result ≡ generated shape.now [] }
+        ensures subgroup { IsSubgroup shape.now result }
         ensures shape { IsShape shape.now }
     {
         let mut trivial = Subgroup::empty();
@@ -85,7 +87,8 @@ impl Subgroup {
 
     /// The number of members, at most 128.
     pub fn order(&self) -> u8
-        ensures { result ≡ length self.now }
+        ensures order { result ≡ length self.now }
+        ensures high { result ≤ 128 }
     {
         let mut order = 0;
         for e in 0..128u8 {
@@ -101,6 +104,7 @@ impl Subgroup {
         requires { IsSubgroup shape.now self.now }
         ensures canonical { result.items ≡ canonical_of shape.now self.now }
         ensures same { generated shape.now result.items ≡ self.now }
+        ensures below { All (λ g. g < order_of shape.now) result.items }
     {
         let mut generators = ArrayVec::new();
         let mut generated = Subgroup::trivial(shape);

@@ -3,7 +3,7 @@ use Rattle.df_lists.specs.NumberSets.{has_member}
 use Rattle.df_group.specs.Elements.{order_of}
 use Rattle.df_group.specs.Subgroups.{generated, canonical_of}
 use Rattle.df_group.proofs.GeneratedSets.{generated_turn}
-use Rattle.df_group.proofs.CanonicalLaws.{none_taken, more_taken, taken_fewer, canonical_generates, from_new, from_start, from_end}
+use Rattle.df_group.proofs.CanonicalLaws.{none_taken, more_taken, taken_fewer, taken_below, canonical_generates, from_new, from_start, from_end}
 use Rattle.df_group.proofs.subgroup.Subgroup.canonical.Goals as goal
 
 pub loop-number-init : goal.loop-number-init
@@ -44,3 +44,6 @@ returns-clause-same c =
     let end : order_of fs ≤ c.loop-number.number = omega (arith, c.order-number-end.ensures.order) in
     ap (generated fs) (from_end fs is c.args.self.now c.loop-number.generators.items (canonical_of fs c.args.self.now) c.loop-number.number end c.loop-number.invariant.rest)
     ∙ canonical_generates fs is c.args.self.now c.requires
+
+pub returns-clause-below : goal.returns-clause-below
+returns-clause-below c = taken_below c.args.shape.now c.trivial-generated.ensures.shape c.loop-number.generators.items c.loop-number.invariant.taken

@@ -24,8 +24,8 @@ loop-e-preserved c =
       | else-is_kept w ↦ counted (is_set bits) n c.loop-e.order c.if-is_kept.order false (sym w.if-is_kept.ensures) c.loop-e.invariant.0 c.loop-e.invariant.1 w.order-is
     ]
 
-pub returns : goal.returns
+pub returns-clause-order : goal.returns-clause-order
 unfolding members
-returns c =
+returns-clause-order c =
     let end : c.loop-e.e ≡ 128 = omega arith in
     c.loop-e.invariant.0 ∙ ap (λ n. length (filter (is_set c.self.inside.bits) (range_with_len 0 n))) end ∙ ap length c.self.view_is

@@ -12,3 +12,6 @@ returns-clause-members c = alone c
 
 pub returns-clause-generated : goal.returns-clause-generated
 returns-clause-generated c = alone c ∙ sym (generated_none c.args.shape.now c.zero.ensures.shape)
+
+pub returns-clause-subgroup : goal.returns-clause-subgroup
+returns-clause-subgroup c = ([], generated_none c.args.shape.now c.zero.ensures.shape ∙ sym (alone c))
