@@ -10,6 +10,7 @@ use Rattle.std.proofs.Math.Nat.{two-pow-succ, pow-le-pow_right, mul-mod_left, di
 use Rattle.df_lists.specs.Membership.{In}
 use Rattle.df_lists.specs.NumberSets.{has_member, with_member, members, weight}
 use Rattle.df_lists.specs.BitLaws.{members_put, has_members}
+use Rattle.df_acting.proofs.TestLaws.{has_from}
 use Rattle.df_subsets.specs.Blocks.{Rises, IsBlock}
 use Rattle.df_subsets.proofs.BlockLaws.{Rises-wider, Rises-below, members_rise}
 
@@ -95,11 +96,6 @@ pub Rises-append : (low m v : ℕ) (a b : List ℕ) → low ≤ m → m ≤ v �
 Rises-append low m v [] b h k r s = Rises-wider low m v v b h (omega arith) s
 Rises-append low m v (p ∷ a) b h k r s = (r.0, omega (arith, r.1), Rises-append (p + 1) m v a b (omega (arith, r.1)) k r.2 s)
 
-In-has : (b : List ℕ) (p : ℕ) → In b p → has_member b p ≡ true
-In-has (q ∷ b) p (inl e) = rw (eq-eqb q p e) refl
-In-has (q ∷ b) p (inr i) = or_right (eqb q p) (has_member b p) (In-has b p i)
-In-has [] p i = absurd i
-
 Rises-bound : (low v : ℕ) (b : List ℕ) (p : ℕ) → Rises low v b → In b p → p < v
 Rises-bound low v [] p r i = absurd i
 Rises-bound low v (q ∷ b) p r (inl e) = omega (arith, r.1, e)
@@ -114,4 +110,4 @@ members_low bits n h small = Rises-below 0 n 128 (members bits) (members_rise bi
         let r = Rises-bound 0 128 (members bits) p (members_rise bits) i in
         let high = pow-le-pow_right {n = 2} (omega arith) {i = n} {j = p} g in
         let none : bits / 2 ^ p ≡ 0 = div-eq_of_lt (omega (arith, small, high)) in
-        both_ways (has_member (members bits) p) (has_members bits p r ∙ ap (λ q. eqb (q % 2) 1) none) (In-has (members bits) p i)
+        both_ways (has_member (members bits) p) (has_members bits p r ∙ ap (λ q. eqb (q % 2) 1) none) (has_from (members bits) p i)

@@ -7,7 +7,7 @@ use Rattle.std.specs.Cmp.Lexicographic.{slice_cmp}
 use Rattle.df_lists.specs.Membership.{In}
 use Rattle.df_subsets.specs.Blocks.{Rises, before}
 use Rattle.df_subsets.specs.Subsets.{choose, subsets}
-use Rattle.df_subsets.specs.Orders.{IsOrder, IsSorted}
+use Rattle.df_acting.specs.Earliest.{IsOrder, IsSorted}
 use Rattle.df_lists.proofs.MemberLaws.{In-append_cases, In-map_gives}
 use Rattle.df_subsets.proofs.SubsetLists.{choose_inside}
 
@@ -79,23 +79,3 @@ choose_sorted low (suc n) (suc k) =
 
 pub subsets_sorted : (v k : ℕ) → IsSorted before (subsets v k)
 subsets_sorted v k = choose_sorted 0 v k
-
--- a sorted list is told by its members
-pub sorted_same : {X : Type 0} (earlier : X → X → Bool) → IsOrder earlier → (xs ys : List X) → IsSorted earlier xs → IsSorted earlier ys → ((x : X) → In xs x → In ys x) → ((x : X) → In ys x → In xs x) → xs ≡ ys
-sorted_same earlier O [] [] s t f g = refl
-sorted_same earlier O [] (y ∷ ys) s t f g = absurd (g y (inl refl))
-sorted_same earlier O (x ∷ xs) [] s t f g = absurd (f x (inl refl))
-sorted_same {X = X} earlier O (x ∷ xs) (y ∷ ys) s t f g =
-    let e = heads (f x (inl refl)) (g y (inl refl)) in
-    ap₂ (λ z l. z ∷ l) e (sorted_same earlier O xs ys s.1 t.1 (λ z i. ⊎_elim (λ h. absurd (not_self z x (e' h e) (s.0 z i))) (λ j. j) (f z (inr i))) (λ z i. ⊎_elim (λ h. absurd (not_self z y (sym h ∙ e) (t.0 z i))) (λ j. j) (g z (inr i))))
-  where
-    not_self : (z w : X) → z ≡ w → earlier w z ≡ true → ⊥
-    not_self z w h l = false≢true (sym (O.unlike w) ∙ subst (λ u. earlier w u ≡ true) h l)
-
-    e' : {z : X} → y ≡ z → x ≡ y → z ≡ x
-    e' h k = sym h ∙ sym k
-
-    heads : In (y ∷ ys) x → In (x ∷ xs) y → x ≡ y
-    heads (inl h) i = sym h
-    heads (inr j) (inl h) = h
-    heads (inr j) (inr i) = absurd (not_self y y refl (O.onward y x y (t.0 x j) (s.0 y i)))

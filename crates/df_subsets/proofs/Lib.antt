@@ -6,4 +6,3 @@ pub mod NextBlocks
 pub mod Places
 pub mod SizedLists
 pub mod SubsetLists
-pub mod TestLaws

@@ -5,10 +5,10 @@ use Rattle.std.proofs.lemmas.List.Elements.{filter-append}
 use Rattle.std.specs.List.{range_with_len, list_any}
 use Rattle.df_lists.specs.Membership.{In, count}
 use Rattle.df_subsets.specs.Blocks.{Rises, IsBlock, before}
-use Rattle.df_subsets.specs.Orders.{IsSorted}
+use Rattle.df_acting.specs.Earliest.{IsSorted}
 use Rattle.df_subsets.specs.Subsets.{choose, points, same_list, nonempty, candidates}
 use Rattle.df_lists.proofs.MemberLaws.{In-append_cases, In-map_gives, In-filter, In-filter_gives}
-use Rattle.df_subsets.proofs.TestLaws.{same_tests, filter_same}
+use Rattle.df_acting.proofs.TestLaws.{same_tests, filter_agree}
 use Rattle.df_subsets.proofs.SubsetLists.{Rises-from, subsets_inside, subsets_once, subsets_have, same_list-gives}
 use Rattle.df_subsets.proofs.BlockOrders.{sorted-append, sorted-map}
 
@@ -45,7 +45,7 @@ choose_is ps zero = sym (ap (λ l. [] ∷ l) (filter_none (λ b. eqb 0 (length b
 choose_is [] (suc k) = rw (ne_eqb (suc k) 0 (λ e. absurd (omega (arith, e)))) refl
 choose_is (p ∷ ps) (suc k) =
     let two = filter-append (λ b. eqb (suc k) (length b)) (map (λ c. p ∷ c) ([] ∷ nonempty ps)) (nonempty ps) in
-    let one = filter-map (λ b. eqb (suc k) (length b)) (λ c. p ∷ c) ([] ∷ nonempty ps) ∙ ap (map (λ c. p ∷ c)) (filter_same (λ c. eqb (suc k) (suc (length c))) (λ c. eqb k (length c)) ([] ∷ nonempty ps) (λ c i. eqb-suc k (length c))) in
+    let one = filter-map (λ b. eqb (suc k) (length b)) (λ c. p ∷ c) ([] ∷ nonempty ps) ∙ ap (map (λ c. p ∷ c)) (filter_agree (λ c. eqb (suc k) (suc (length c))) (λ c. eqb k (length c)) ([] ∷ nonempty ps) (λ c i. eqb-suc k (length c))) in
     let empty : eqb (suc k) 0 ≡ false = ne_eqb (suc k) 0 (λ e. absurd (omega (arith, e))) in
     let rest : choose ps (suc k) ≡ filter (λ b. eqb (suc k) (length b)) (nonempty ps) = choose_is ps (suc k) ∙ ap (λ b. cond b ([] ∷ filter (λ b. eqb (suc k) (length b)) (nonempty ps)) (filter (λ b. eqb (suc k) (length b)) (nonempty ps))) empty in
     ap (λ l. map (λ c. p ∷ c) l ++ choose ps (suc k)) (choose_is ps k)
@@ -107,7 +107,7 @@ candidates_inside v sizes b i =
 pub candidates_once : (v : ℕ) (sizes b : List ℕ) → IsBlock v b → list_any (λ k. eqb k (length b)) sizes ≡ true → count (same_list b) (candidates v sizes) ≡ 1
 candidates_once v sizes b r h =
     ap length (filter-filter (same_list b) (λ c. list_any (λ k. eqb k (length c)) sizes) ([] ∷ nonempty (points v))
-    ∙ filter_same (λ c. list_any (λ k. eqb k (length c)) sizes && same_list b c) (λ c. eqb (length b) (length c) && same_list b c) ([] ∷ nonempty (points v)) (λ c i. alike c)
+    ∙ filter_agree (λ c. list_any (λ k. eqb k (length c)) sizes && same_list b c) (λ c. eqb (length b) (length c) && same_list b c) ([] ∷ nonempty (points v)) (λ c i. alike c)
     ∙ sym (filter-filter (same_list b) (λ c. eqb (length b) (length c)) ([] ∷ nonempty (points v))))
     ∙ ap (count (same_list b)) (sym (choose_is (points v) (length b)))
     ∙ subsets_once v (length b) b r refl

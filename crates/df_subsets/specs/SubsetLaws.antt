@@ -4,11 +4,13 @@ use Rattle.std.specs.Ordering.{nat_cmp, is_lt}
 use Rattle.std.specs.Cmp.Lexicographic.{slice_cmp}
 use Rattle.df_lists.specs.Membership.{In, count}
 use Rattle.df_subsets.specs.Blocks.{IsBlock, before}
-use Rattle.df_subsets.specs.Orders.{IsOrder, IsSorted}
+use Rattle.df_acting.specs.Classes.{IsEquality}
+use Rattle.df_acting.specs.Earliest.{IsOrder, IsSorted}
 use Rattle.df_subsets.specs.Subsets.{subsets, binomial, same_list, rank, candidates}
 
--- the order of blocks is that of lists
+-- blocks are told apart and ordered as lists
 pub record AreOrdered : Type 0 where
+  pub equality : IsEquality same_list
   pub order : IsOrder before
   pub of_lists : (a b : List ℕ) → before a b ≡ is_lt (slice_cmp nat_cmp a b)
 

@@ -17,7 +17,7 @@ pub fn blocks_are_gathered()
     ensures { AreGathered }
 {}
 
-/// Blocks are ordered as lists, a proper prefix first.
+/// Blocks are told apart and ordered as lists, a proper prefix first.
 pub fn blocks_are_ordered()
     ensures { AreOrdered }
 {}
