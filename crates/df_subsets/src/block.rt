@@ -121,7 +121,7 @@ impl Block {
     pub fn size(&self) -> u8
         ensures { result ≡ length self.now }
     {
-        self.points().len() as u8
+        self.bits.count_ones() as u8
     }
 
     /// The points, increasing.
@@ -130,10 +130,11 @@ impl Block {
         ensures block { IsBlock 128 self.now }
     {
         let mut points = ArrayVec::new();
-        for p in 0..128u8 {
-            if (self.bits >> p) & 1 == 1 {
-                points.push(Point(p));
-            }
+        let mut rest = self.bits;
+        while rest != 0 {
+            let p = rest.trailing_zeros() as u8;
+            points.push(Point(p));
+            rest -= 1 << p;
         }
         points
     }
@@ -159,7 +160,7 @@ impl PartialEq for Block {
     ghost laws = { Prim.search (comparing, rules, lists_per) };
 
     fn eq(&self, other: &Self) -> bool {
-        self.points().as_slice() == other.points().as_slice()
+        self.bits == other.bits
     }
 }
 
@@ -177,7 +178,19 @@ impl Ord for Block {
     ghost matches_eq = { Prim.search (comparing, rules) };
 
     fn cmp(&self, other: &Self) -> Ordering {
-        self.points().as_slice().cmp(&other.points().as_slice())
+        let apart = self.bits ^ other.bits;
+        if apart == 0 {
+            return Ordering::Equal;
+        }
+        // at the first point that only one of the two has, the other one has a later point, or ends
+        let first = apart.trailing_zeros();
+        if (self.bits >> first) & 1 == 1 {
+            if other.bits >> first == 0 { Ordering::Greater } else { Ordering::Less }
+        } else if self.bits >> first == 0 {
+            Ordering::Less
+        } else {
+            Ordering::Greater
+        }
     }
 }
 

@@ -1,5 +1,5 @@
 // What no clause says: that each call succeeds, and values worked out by hand.
-use super::{Block, Point};
+use super::{Block, Point, binomial, first, next, rank, unrank};
 
 #[test]
 fn builds_blocks_from_points(rt: HostRuntime) {
@@ -26,4 +26,64 @@ fn orders_blocks_as_lists(rt: HostRuntime) {
     assert!(rt; low < long && long < high && low < high);
     high.insert(Point(1));
     assert_eq!(rt; high.size(), 1);
+}
+
+#[test]
+fn counts_blocks(rt: HostRuntime) {
+    assert_eq!(rt; binomial(25, 8), 1_081_575);
+    assert_eq!(rt; binomial(64, 6), 74_974_368);
+    assert_eq!(rt; binomial(128, 64), 23_951_146_041_928_082_866_135_587_776_380_551_750);
+    assert_eq!(rt; binomial(128, 128), 1);
+    assert_eq!(rt; binomial(128, 0), 1);
+}
+
+// Goes through all numbers of v bits downwards, whose bits from the top on are the points:
+// those with k bits are the blocks of k points in the order of lists.
+#[test]
+fn goes_through_all_blocks(rt: HostRuntime) {
+    for v in 1..10u8 {
+        for k in 1..v + 1 {
+            let mut block = first(v, k);
+            let mut place: u128 = 0;
+            let mut ended = false;
+            for bits in (0..1u32 << v).rev() {
+                if bits.count_ones() == k as u32 {
+                    for p in 0..v {
+                        assert_eq!(rt; block.has(Point(p)), (bits >> (v - 1 - p)) & 1 == 1, "{v} {k} {bits}");
+                    }
+                    let at = rank(v, &block);
+                    assert_eq!(rt; at, place);
+                    assert!(rt; unrank(v, k, at) == block);
+                    place = place.wrapping_add(1);
+                    match next(v, &block) {
+                        Some(following) => block = following,
+                        None => ended = true,
+                    }
+                }
+            }
+            assert!(rt; ended && place == binomial(v, k), "{v} {k}");
+        }
+    }
+}
+
+#[test]
+fn ends_at_the_last_block_of_128_points(rt: HostRuntime) {
+    let single = first(128, 1);
+    assert!(rt; single.size() == 1 && single.has(Point(0)));
+    let full = first(128, 128);
+    assert!(rt; full.size() == 128 && next(128, &full).is_none());
+    assert_eq!(rt; rank(128, &full), 0);
+    let count = binomial(128, 64);
+    let place = count.saturating_sub(1);
+    if place < count {
+        let last = unrank(128, 64, place);
+        assert!(rt; last.has(Point(64)) && !last.has(Point(63)) && last.size() == 64);
+        assert_eq!(rt; rank(128, &last), place);
+        assert!(rt; next(128, &last).is_none());
+    }
+    if 1 < count {
+        let second = unrank(128, 64, 1);
+        assert!(rt; second.has(Point(62)) && !second.has(Point(63)) && second.has(Point(64)));
+        assert!(rt; next(128, &first(128, 64)) == Some(second));
+    }
 }
