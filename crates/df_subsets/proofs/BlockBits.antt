@@ -138,10 +138,10 @@ lowest_first bits pos fits = go (members bits) refl (members_rise bits)
         let has_first : is_set bits q ≡ true = sym (has_members bits q s.1) ∙ ap (λ l. has_member l q) e ∙ or_left (eqb q q) (has_member b q) (eq-eqb q q refl) in
         let has_low : has_member (q ∷ b) t ≡ true = ap (λ l. has_member l t) (sym e) ∙ has_members bits t zeros.0 ∙ eq-eqb (bit_at bits t) 1 zeros.1 in
         let same : t ≡ q = ⊎_elim (λ x. x)
-            (λ o. ⊎_elim
-            (λ l. absurd (both_ways (has_member (q ∷ b) t) (none_below q 128 (q ∷ b) t (omega arith, s.1, s.2) l) has_low))
-            (λ l. let z = zeros.2 q l in let one = eqb-true (bit_at bits q) 1 has_first in absurd (omega (arith, z, one))) o)
-            (cases_order t q) in
+        (λ o. ⊎_elim
+        (λ l. absurd (both_ways (has_member (q ∷ b) t) (none_below q 128 (q ∷ b) t (omega arith, s.1, s.2) l) has_low))
+        (λ l. let z = zeros.2 q l in let one = eqb-true (bit_at bits q) 1 has_first in absurd (omega (arith, z, one))) o)
+        (cases_order t q) in
         let rest : bits - 2 ^ q ≡ weight b = omega (arith, whole) in
         (zeros.0, omega (arith, whole, ap (λ n. 2 ^ n) same), e ∙ ap₂ (λ x l. x ∷ l) (sym same) (sym (ap (λ n. members (bits - 2 ^ n)) same ∙ ap members rest ∙ members_weight (q + 1) 128 b (omega arith) s.2)))
 

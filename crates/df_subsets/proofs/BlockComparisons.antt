@@ -1,16 +1,15 @@
 -- Blocks compared by their bits.
-use Rattle.std.proofs.Common.{◌≡◌, ℕ, suc, zero, ◌+◌, ◌-◌, ◌*◌, ◌/◌, ◌%◌, ◌^◌, ◌<◌, ◌≤◌, Bool, true, false, cond, not, ◌||◌, eqb, ltb, List, [], ◌∷◌, refl, sym, ap, ◌∙◌, subst, inl, inr, ◌⊎◌, arith, ⊎_elim, bit_xor, eq-eqb, ne_eqb, eqb-true, lt-ltb, le-ltb}
+use Rattle.std.proofs.Common.{◌≡◌, ℕ, suc, zero, ◌+◌, ◌*◌, ◌/◌, ◌%◌, ◌^◌, ◌<◌, ◌≤◌, Bool, true, false, cond, not, ◌||◌, eqb, ltb, List, [], ◌∷◌, refl, sym, ap, ◌∙◌, subst, inl, inr, ◌⊎◌, arith, ⊎_elim, bit_xor, eq-eqb, ne_eqb, eqb-true, lt-ltb, le-ltb}
 use Rattle.std.specs.List.{list_any}
 use Rattle.std.specs.Int.{bit_at, w128, trailing_zeros}
 use Rattle.std.specs.Ordering.{nat_cmp}
-use Rattle.std.specs.declared.cmp.Ordering.{Ordering}
 use Rattle.std.specs.declared.cmp.Ordering.TheVariants.{Less, Equal, Greater}
 use Rattle.std.specs.Cmp.Lexicographic.{slice_cmp}
 use Rattle.std.proofs.lemmas.Bool.{false≢true, both_ways, cases_eq, cases_lt, cases_order, or_left, or_parts, ltb-false, not-true}
 use Rattle.std.proofs.lemmas.Nat.{xor_lt, shr_split, mod_below, pow_pos}
 use Rattle.std.proofs.lemmas.Nat.Bits.{bit_at_xor, bit_at-lt, bit_at-zero, bit_at-trailing_zeros, same_from_bits}
 use Rattle.std.proofs.Math.Nat.{div-eq_of_lt}
-use Rattle.df_lists.specs.NumberSets.{has_member, members, weight, is_set}
+use Rattle.df_lists.specs.NumberSets.{has_member, members, is_set}
 use Rattle.df_lists.specs.BitLaws.{has_members, weight_view}
 use Rattle.df_acting.proofs.TestLaws.{same_tests}
 use Rattle.df_subsets.specs.Blocks.{Rises, IsBlock}

@@ -185,7 +185,11 @@ impl Ord for Block {
         // at the first point that only one of the two has, the other one has a later point, or ends
         let first = apart.trailing_zeros();
         if (self.bits >> first) & 1 == 1 {
-            if other.bits >> first == 0 { Ordering::Greater } else { Ordering::Less }
+            if other.bits >> first == 0 {
+                Ordering::Greater
+            } else {
+                Ordering::Less
+            }
         } else if self.bits >> first == 0 {
             Ordering::Less
         } else {

@@ -13,6 +13,7 @@ pub fn binomial(v: u8, k: u8) -> u128
     requires some { k ≤ v }
     ensures value { result ≡ binomial_of v k }
     ensures length { result ≡ length (subsets v k) }
+    ensures positive { 0 < result }
 {
     choices(v, k)
 }
@@ -41,6 +42,8 @@ pub fn first(v: u8, k: u8) -> Block
     requires within { k ≤ v }
     ensures first { slice_get (subsets v k) 0 ≡ Some result }
     ensures points { result ≡ points_below k }
+    ensures block { IsBlock v result }
+    ensures size { length result ≡ k }
 {
     Block::from_bits(u128::MAX >> (128 - k))
 }

