@@ -1,2 +1,4 @@
 pub mod Blocks
 pub mod SetLaws
+pub mod SubsetLaws
+pub mod Subsets

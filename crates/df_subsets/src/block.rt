@@ -8,7 +8,7 @@ ghost use Rattle.std.specs.Hash as fed;
 ghost use Rattle.std.specs.Hash.{items_Alike, same_Alike};
 ghost use Rattle.std.proofs.Common.{rules};
 ghost use Rattle.df_lists.specs.Membership.{In};
-ghost use Rattle.df_lists.specs.NumberSets.{has_member, with_member};
+ghost use Rattle.df_lists.specs.NumberSets.{has_member, with_member, members, weight};
 ghost use Rattle.df_subsets.specs.Blocks.{IsBlock, are_apart, increasing};
 
 use arrayvec::ArrayVec;
@@ -68,6 +68,20 @@ impl Block {
         Block { bits: 0 }
     }
 
+    // The block that these bits keep.
+    pub(crate) fn from_bits(bits: u128) -> Block
+        ensures { result ≡ members bits }
+    {
+        Block { bits }
+    }
+
+    // The bits that keep the block.
+    pub(crate) fn bits(&self) -> u128
+        ensures { result ≡ weight self.now }
+    {
+        self.bits
+    }
+
     /// The block of these points, in whatever order they come.
     /// `None` exactly where a point is repeated or isn't below 128.
     pub fn from_points(points: &[Point]) -> Option<Block>
@@ -107,7 +121,7 @@ impl Block {
     pub fn size(&self) -> u8
         ensures { result ≡ length self.now }
     {
-        self.points().len() as u8
+        self.bits.count_ones() as u8
     }
 
     /// The points, increasing.
@@ -116,10 +130,11 @@ impl Block {
         ensures block { IsBlock 128 self.now }
     {
         let mut points = ArrayVec::new();
-        for p in 0..128u8 {
-            if (self.bits >> p) & 1 == 1 {
-                points.push(Point(p));
-            }
+        let mut rest = self.bits;
+        while rest != 0 {
+            let p = rest.trailing_zeros() as u8;
+            points.push(Point(p));
+            rest -= 1 << p;
         }
         points
     }
@@ -145,7 +160,7 @@ impl PartialEq for Block {
     ghost laws = { Prim.search (comparing, rules, lists_per) };
 
     fn eq(&self, other: &Self) -> bool {
-        self.points().as_slice() == other.points().as_slice()
+        self.bits == other.bits
     }
 }
 
@@ -163,7 +178,23 @@ impl Ord for Block {
     ghost matches_eq = { Prim.search (comparing, rules) };
 
     fn cmp(&self, other: &Self) -> Ordering {
-        self.points().as_slice().cmp(&other.points().as_slice())
+        let apart = self.bits ^ other.bits;
+        if apart == 0 {
+            return Ordering::Equal;
+        }
+        // at the first point that only one of the two has, the other one has a later point, or ends
+        let first = apart.trailing_zeros();
+        if (self.bits >> first) & 1 == 1 {
+            if other.bits >> first == 0 {
+                Ordering::Greater
+            } else {
+                Ordering::Less
+            }
+        } else if self.bits >> first == 0 {
+            Ordering::Less
+        } else {
+            Ordering::Greater
+        }
     }
 }
 

@@ -1,36 +1,48 @@
-use Rattle.std.proofs.Common.{◌≡◌, ℕ, ◌+◌, ◌≤◌, ◌++◌, ◌∷◌, [], Bool, true, false, cond, List, length, filter, sym, ap, subst, ◌∙◌, arith, tests, length-append, append-nil}
-use Rattle.std.specs.List.{range_with_len}
-use Rattle.std.proofs.lemmas.Nat.Bits.{shr_and_one}
-use Rattle.df_lists.specs.NumberSets.{members, is_set}
-use Rattle.df_lists.specs.BitLaws.{filter_more}
+use Rattle.std.proofs.Common.{◌-◌, ◌*◌, ◌%◌, ◌^◌, ◌++◌, ◌∷◌, [], length, ap, sym, subst, ◌∙◌, arith, lit<, append-nil, length-append}
+use Rattle.std.specs.Int.{w128, trailing_zeros}
+use Rattle.std.proofs.lemmas.Nat.{one_shl, pow_pos}
+use Rattle.std.proofs.lemmas.List.{append_assoc}
+use Rattle.df_lists.specs.NumberSets.{members}
 use Rattle.df_subsets.specs.Blocks.{IsBlock}
 use Rattle.df_subsets.proofs.BlockLaws.{members_rise}
+use Rattle.df_subsets.proofs.BlockBits.{lowest_first, length_fits, no_members}
 use Rattle.df_subsets.proofs.block.Block.points.Goals as goal
-use Rattle.df_subsets.proofs.block.Block.points.Goals.{then-self-p-eq1, else-self-p-eq1}
 
--- what is kept of one more number
-kept : (t : ℕ → Bool) (n : ℕ) (old new : List ℕ) (v : Bool) → t n ≡ v → old ≡ filter t (range_with_len 0 n) → length old ≤ n → new ≡ cond v (old ++ n ∷ []) old
-    → (new ≡ filter t (range_with_len 0 (n + 1))) × (length new ≤ n + 1)
-kept t n old new true e is fits new_is =
-    (new_is ∙ ap (λ l. l ++ n ∷ []) is ∙ sym (filter_more t n ∙ ap (λ v. filter t (range_with_len 0 n) ++ cond v (n ∷ []) []) e), omega (arith, ap length new_is, length-append old (n ∷ [])))
-kept t n old new false e is fits new_is =
-    (new_is ∙ is ∙ sym (filter_more t n ∙ ap (λ v. filter t (range_with_len 0 n) ++ cond v (n ∷ []) []) e ∙ append-nil (filter t (range_with_len 0 n))), omega (arith, ap length new_is))
+pub loop-rest-init : goal.loop-rest-init
+loop-rest-init c = ap (λ l. l ++ members c.self.inside.bits) c.new-points.ensures ∙ c.self.view_is
 
-pub loop-p-preserved : goal.loop-p-preserved
-loop-p-preserved c =
-    let bits = c.self.inside.bits in
-    let n = c.loop-p.p in
-    let shift = shr_and_one bits n in
-    elim c.if-self-p-eq1.branch [
-      | then-self-p-eq1 w ↦ kept (is_set bits) n c.loop-p.points.items c.if-self-p-eq1.points.items true (grind (arith, tests)) c.loop-p.invariant.0 c.loop-p.invariant.1 (ap (λ v. v.items) w.points-is ∙ w.push.ensures.items)
-      | else-self-p-eq1 w ↦ kept (is_set bits) n c.loop-p.points.items c.if-self-p-eq1.points.items false (grind (arith, tests)) c.loop-p.invariant.0 c.loop-p.invariant.1 (ap (λ v. v.items) w.points-is)
-    ]
+pub push-requires : goal.push-requires
+push-requires c =
+    let rest = c.loop-rest.rest in
+    let low = lowest_first rest (omega (arith, c.loop-rest-test.true)) (omega (arith, c.loop-rest.auto.rest-fits)) in
+    let few = length_fits 0 128 c.args.self.now (omega arith) (subst (IsBlock 128) c.self.view_is (members_rise c.self.inside.bits)) in
+    (lit< tt, omega (arith, few, ap length c.loop-rest.invariant, length-append c.loop-rest.points.items (members rest), ap length low.2))
+
+pub overflow_sub-rest : goal.overflow_sub-rest
+overflow_sub-rest c =
+    let rest = c.loop-rest.rest in
+    let low = lowest_first rest (omega (arith, c.loop-rest-test.true)) (omega (arith, c.loop-rest.auto.rest-fits)) in
+    omega (arith, low.1, one_shl (trailing_zeros w128 rest) 128 low.0)
+
+pub loop-rest-smaller : goal.loop-rest-smaller
+loop-rest-smaller c =
+    let rest = c.loop-rest.rest in
+    let low = lowest_first rest (omega (arith, c.loop-rest-test.true)) (omega (arith, c.loop-rest.auto.rest-fits)) in
+    omega (arith, low.1, one_shl (trailing_zeros w128 rest) 128 low.0, pow_pos (trailing_zeros w128 rest))
+
+pub loop-rest-preserved : goal.loop-rest-preserved
+loop-rest-preserved c =
+    let rest = c.loop-rest.rest in
+    let p = trailing_zeros w128 rest in
+    let low = lowest_first rest (omega (arith, c.loop-rest-test.true)) (omega (arith, c.loop-rest.auto.rest-fits)) in
+    ap (λ l. l ++ members (rest - 1 * 2 ^ p % 2 ^ 128)) c.push.ensures.items
+    ∙ ap (λ n. (c.loop-rest.points.items ++ p ∷ []) ++ members (rest - n)) (one_shl p 128 low.0)
+    ∙ append_assoc c.loop-rest.points.items (p ∷ []) (members (rest - 2 ^ p))
+    ∙ ap (λ l. c.loop-rest.points.items ++ l) (sym low.2)
+    ∙ c.loop-rest.invariant
 
 pub returns : goal.returns
-unfolding members
-returns c =
-    let end : c.loop-p.p ≡ 128 = omega arith in
-    record {
-      list = c.loop-p.invariant.0 ∙ ap (λ n. filter (is_set c.self.inside.bits) (range_with_len 0 n)) end ∙ c.self.view_is;
-      block = subst (IsBlock 128) c.self.view_is (members_rise c.self.inside.bits);
-    }
+returns c = record {
+  list = sym (ap (λ n. c.loop-rest.points.items ++ members n) c.loop-rest-test.false ∙ ap (λ l. c.loop-rest.points.items ++ l) no_members ∙ append-nil c.loop-rest.points.items) ∙ c.loop-rest.invariant;
+  block = subst (IsBlock 128) c.self.view_is (members_rise c.self.inside.bits);
+}

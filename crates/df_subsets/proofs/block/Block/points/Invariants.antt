@@ -1,7 +1,9 @@
-use Rattle.std.proofs.Common.{◌≡◌, ◌≤◌, length, filter}
-use Rattle.std.specs.List.{range_with_len}
-use Rattle.df_lists.specs.NumberSets.{is_set}
+use Rattle.std.proofs.Common.{◌≡◌, ◌++◌}
+use Rattle.df_lists.specs.NumberSets.{members}
 use Rattle.df_subsets.proofs.block.Block.points.Given as goal
 
-abbrev pub invariant-loop-p : goal.invariant-loop-p
-invariant-loop-p l = (l.points.items ≡ filter (is_set l.self-inside.bits) (range_with_len 0 l.p)) × (length l.points.items ≤ l.p)
+abbrev pub invariant-loop-rest : goal.invariant-loop-rest
+invariant-loop-rest l = l.points.items ++ members l.rest ≡ l.self
+
+abbrev pub decreases-loop-rest : goal.decreases-loop-rest
+decreases-loop-rest l = l.rest
