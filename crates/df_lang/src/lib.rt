@@ -3,10 +3,12 @@
 //! The crates above see a `Problem` as a record of numbers and lists, and cite its target and the balance of a list of blocks.
 #![tactic(auto)]
 
+mod block_lines;
 mod blocks;
 mod draft;
 mod elements;
 mod fault;
+mod generators;
 mod groups;
 mod lookups;
 mod multipliers;
