@@ -6,7 +6,7 @@ use Rattle.df_lang.specs.declared.fault.Stop.TheVariants.{Fault, OutOfMemory}
 use Rattle.df_lang.specs.declared.fault.ParseError.{ParseError}
 use Rattle.df_lang.specs.declared.fault.ParseError.TheVariants as told
 use Rattle.df_lang.specs.declared.draft.Draft.{Draft}
-use Rattle.df_lang.specs.declared.reader.Reader.{Reader}
+use Rattle.df_lang.specs.declared.state.Reader.{Reader}
 use Rattle.df_lang.specs.Problems.{Stated}
 use Rattle.df_lang.specs.StandsAbove.{Above, nothing}
 use Rattle.df_lang.specs.Stored.{named, items_of}

@@ -6,6 +6,7 @@
 mod block_lines;
 mod blocks;
 mod draft;
+mod early;
 mod elements;
 mod fault;
 mod generators;
@@ -18,6 +19,7 @@ mod print;
 mod problem;
 mod reader;
 mod sizes;
+mod state;
 mod statements;
 mod texts;
 mod tokens;

