@@ -5,4 +5,6 @@ pub mod KeptOnce
 pub mod Lengths
 pub mod LinesRead
 pub mod NamePlaces
+pub mod RulesKept
 pub mod SizesRise
+pub mod ValuesKept
