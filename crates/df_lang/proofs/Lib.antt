@@ -5,6 +5,7 @@ pub mod KeptOnce
 pub mod Lengths
 pub mod LinesRead
 pub mod NamePlaces
+pub mod PointsKept
 pub mod RulesKept
 pub mod SizesRise
 pub mod ValuesKept
