@@ -8,4 +8,5 @@ pub mod NamePlaces
 pub mod PointsKept
 pub mod RulesKept
 pub mod SizesRise
+pub mod StatementsKept
 pub mod ValuesKept

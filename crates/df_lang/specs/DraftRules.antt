@@ -42,14 +42,17 @@ pub record BlocksKept (version v : ℕ) (ks : List ℕ) (ms : List Member) (rs n
   pub none_required : version ≡ 1 → rs ≡ []
   pub none_forbidden : version ≡ 1 → ns ≡ []
 
+pub record HeadKept (version : Option ℕ) (group : Option (List ℕ)) (fixed : Option ℕ) : Type 0 where
+  pub version_stated : is_some version ≡ true
+  pub group_stated : is_some group ≡ true
+  pub version_is : IsVersion (unwrap_or version 1)
+  pub shape : IsShape (unwrap_or group [])
+  pub few_fixed : unwrap_or fixed 0 ≤ 16
+  pub points : order_of (unwrap_or group []) + unwrap_or fixed 0 ≤ 128
+
 -- from the line of the group on
 pub record Keeps (a : Above) : Type 0 where
-  pub version_stated : is_some a.version ≡ true
-  pub group_stated : is_some a.group ≡ true
-  pub version : IsVersion (version_of a)
-  pub shape : IsShape (shape_above a)
-  pub fixed : fixed_of a ≤ 16
-  pub points : points_above a ≤ 128
+  pub head : HeadKept a.version a.group a.fixed
   pub names : NamesKept (shape_above a) a.names
   pub shift : IfSome a.shift (IsWord a.names)
   pub mults : IfSome a.mults (MultsKept (shape_above a))
