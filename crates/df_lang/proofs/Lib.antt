@@ -3,6 +3,7 @@ pub mod ElementParts
 pub mod Factors
 pub mod KeptOnce
 pub mod Lengths
+pub mod LinesKept
 pub mod LinesRead
 pub mod NamePlaces
 pub mod PointsKept

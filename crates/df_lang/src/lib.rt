@@ -9,6 +9,7 @@ mod draft;
 mod early;
 mod elements;
 mod fault;
+mod finish;
 mod generators;
 mod groups;
 mod lookups;
@@ -26,6 +27,7 @@ mod tokens;
 mod words;
 
 pub use fault::{Needed, ParseError, SourceError, SourceFault};
+pub use finish::parse;
 pub use parts::{Inside, Kind, Member, Name, Which};
 pub use problem::Problem;
 pub use texts::{block_text_is_short, point_text_is_short, put_block, put_point};

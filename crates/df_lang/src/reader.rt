@@ -1,8 +1,9 @@
 // What the lines of a source state, one after the other.
-ghost use Rattle.std.specs.Prelude.{◌≡◌, ◌==◌, ◌≤◌, ◌∷◌, None, Some, is_some, IsTrue};
+ghost use Rattle.std.specs.Prelude.{◌≡◌, ◌==◌, ◌≤◌, ◌∷◌, None, Some, is_some, IsTrue, IfOk};
 ghost use Rattle.df_io.specs.Lines.{left, tokens_of};
 ghost use Rattle.df_lang.specs.declared.fault.SourceFault.TheVariants.{BadWord};
 ghost use Rattle.df_lang.specs.Drafts.{above, stated_above, Goes, GoesOn, Reads};
+ghost use Rattle.df_lang.specs.DraftRules.{StandsKept};
 ghost use Rattle.df_lang.specs.Rules.{allowed};
 ghost use Rattle.df_lang.specs.StandsAbove.{nothing, version_of};
 ghost use Rattle.df_lang.specs.Statements.{meaning, statement_line, version_line, step};
@@ -185,7 +186,8 @@ impl Reader {
 
 /// What stands above the end of a source.
 pub(crate) fn read_lines(alloc: Global, source: &[u8]) -> Result<Reader, ParseError>
-    ensures { Reads source.now result }
+    ensures reads { Reads source.now result }
+    ensures kept { IfOk result (λ reader. StandsKept (stated_above reader)) }
 {
     let mut reader = Reader::new();
     let mut lines = Lines::new(source);
