@@ -2,6 +2,7 @@
 use Rattle.std.specs.Prelude.{◌≡◌, ℕ, ◌<◌, List, length, get_or}
 use Rattle.df_group.specs.Elements.{order_of, elements, residues, number, group_of, IsElement, IsGroup, IsShape}
 
+-- numbers and elements tell one another, and the element of number e stands at place e
 pub record AreNumbered (fs : List ℕ) : Type 0 where
   pub size : length (elements fs) ≡ order_of fs
   pub at : (e : ℕ) (none : List ℕ) → e < order_of fs → get_or (elements fs) e none ≡ residues fs e

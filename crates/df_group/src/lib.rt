@@ -7,9 +7,12 @@ mod laws;
 mod residues;
 mod shape;
 mod subgroup;
+#[cfg(test)]
+mod tests;
 
 pub use laws::{
-    elements_are_numbered, multiples_are_multiples, products_are_groups, units_are_undone,
+    elements_are_numbered, multiples_are_multiples, products_are_groups, subgroups_are_closed,
+    units_are_undone,
 };
 pub use shape::{Elem, Shape, ShapeError};
 pub use subgroup::Subgroup;
