@@ -3,5 +3,11 @@ pub mod ElementParts
 pub mod Factors
 pub mod KeptOnce
 pub mod Lengths
+pub mod LinesKept
+pub mod LinesRead
 pub mod NamePlaces
+pub mod PointsKept
+pub mod RulesKept
 pub mod SizesRise
+pub mod StatementsKept
+pub mod ValuesKept

@@ -1,12 +1,12 @@
 -- What a draft holds, as what stands above, and what a step of the reading has to answer.
-use Rattle.std.specs.Prelude.{◌≡◌, ℕ, map, List, Option, Some, None, option_map, Result, Ok, Err, MatchResult, ⊤}
+use Rattle.std.specs.Prelude.{◌≡◌, ℕ, map, List, Option, Some, None, option_map, Result, Ok, Err, MatchResult, ⊤, Vec}
 use Rattle.df_lang.specs.declared.fault.SourceFault.{SourceFault}
 use Rattle.df_lang.specs.declared.fault.Stop.{Stop}
 use Rattle.df_lang.specs.declared.fault.Stop.TheVariants.{Fault, OutOfMemory}
 use Rattle.df_lang.specs.declared.fault.ParseError.{ParseError}
 use Rattle.df_lang.specs.declared.fault.ParseError.TheVariants as told
 use Rattle.df_lang.specs.declared.draft.Draft.{Draft}
-use Rattle.df_lang.specs.declared.reader.Reader.{Reader}
+use Rattle.df_lang.specs.declared.state.Reader.{Reader}
 use Rattle.df_lang.specs.Problems.{Stated}
 use Rattle.df_lang.specs.StandsAbove.{Above, nothing}
 use Rattle.df_lang.specs.Stored.{named, items_of}
@@ -48,11 +48,11 @@ GoesOn meant new (Ok x) = meant ≡ Ok new
 GoesOn meant new (Err (Fault fault)) = meant ≡ Err fault
 GoesOn meant new (Err OutOfMemory) = ⊤
 
--- a value that is meant, or the fault that is meant, or want of memory
-abbrev pub Gives : {A : Type 0} → Result A SourceFault → Result A Stop → Type 0
-Gives meant (Ok x) = meant ≡ Ok x
-Gives meant (Err (Fault fault)) = meant ≡ Err fault
-Gives meant (Err OutOfMemory) = ⊤
+-- the items that are meant, or the fault that is meant, or want of memory
+abbrev pub GivesItems : {A : Type 0} → Result (List ℕ) SourceFault → Result (Vec ℕ A) Stop → Type 0
+GivesItems meant (Ok v) = meant ≡ Ok v.items
+GivesItems meant (Err (Fault fault)) = meant ≡ Err fault
+GivesItems meant (Err OutOfMemory) = ⊤
 
 -- the whole source as what stands above its end, or its first fault, or want of memory
 abbrev pub Reads : List ℕ → Result Reader ParseError → Type 0

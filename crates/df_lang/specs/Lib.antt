@@ -1,5 +1,6 @@
 pub mod Balance
 pub mod Canonical
+pub mod DraftRules
 pub mod Drafts
 pub mod Names
 pub mod Pieces

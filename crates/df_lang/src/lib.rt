@@ -3,10 +3,14 @@
 //! The crates above see a `Problem` as a record of numbers and lists, and cite its target and the balance of a list of blocks.
 #![tactic(auto)]
 
+mod block_lines;
 mod blocks;
 mod draft;
+mod early;
 mod elements;
 mod fault;
+mod finish;
+mod generators;
 mod groups;
 mod lookups;
 mod multipliers;
@@ -16,12 +20,14 @@ mod print;
 mod problem;
 mod reader;
 mod sizes;
+mod state;
 mod statements;
 mod texts;
 mod tokens;
 mod words;
 
 pub use fault::{Needed, ParseError, SourceError, SourceFault};
+pub use finish::parse;
 pub use parts::{Inside, Kind, Member, Name, Which};
 pub use problem::Problem;
 pub use texts::{block_text_is_short, point_text_is_short, put_block, put_point};

@@ -3,14 +3,17 @@ ghost use Rattle.std.specs.Prelude.{◌≡◌, ◌≤◌, ◌<◌, ◌∷◌, []
 ghost use Rattle.df_io.specs.Lines.{left};
 ghost use Rattle.df_lang.specs.Drafts.{above, Goes, GoesOn};
 ghost use Rattle.df_lang.specs.Values.{shift_of, inside_of};
-ghost use Rattle.df_lang.specs.Statements.{fixed_line, shift_line, lambda_line, inside_line, hole_line};
+ghost use Rattle.df_lang.specs.Statements.{fixed_line, subgroup_line, shift_line, mult_line, size_line, lambda_line, inside_line, hole_line};
 
 use crate::draft::Draft;
 use crate::fault::{SourceFault, Stop};
 use crate::lookups::which;
+use crate::multipliers::multipliers;
 use crate::parts::{Inside, Which};
+use crate::sizes::{size_list, sizes};
 use crate::tokens::{end, needed, number_in, one_number};
 use df_io::Tokens;
+use std::alloc::Global;
 
 impl Draft {
     /// The line of `fixed`.
@@ -27,6 +30,14 @@ impl Draft {
         Ok(())
     }
 
+    /// The line of `subgroup`.
+    #[tactic(auto, unfolding(crate::specs::Statements::subgroup_line, crate::specs::Values::subgroup_of))]
+    pub(crate) fn subgroup(&mut self, alloc: Global, tokens: &mut Tokens<'_>) -> Result<(), Stop>
+        ensures { GoesOn (subgroup_line (above self.old) (left tokens.old)) (above self.new) result }
+    {
+        Err(Stop::OutOfMemory)
+    }
+
     /// The line of `shift`.
     #[tactic(auto, unfolding(crate::specs::Statements::shift_line, crate::specs::Values::shift_of))]
     pub(crate) fn shift(&mut self, tokens: &mut Tokens<'_>) -> Result<(), SourceFault>
@@ -39,6 +50,33 @@ impl Draft {
         let subgroup = which(&self.names, token)?;
         end(tokens)?;
         self.shift = Some(subgroup);
+        Ok(())
+    }
+
+    /// The line of `mult`.
+    #[tactic(auto, unfolding(crate::specs::Statements::mult_line))]
+    pub(crate) fn mult(&mut self, tokens: &mut Tokens<'_>) -> Result<(), SourceFault>
+        ensures { Goes (mult_line (above self.old) (left tokens.old)) (above self.new) result }
+    {
+        if self.mults.is_some() {
+            return Err(SourceFault::Repeated);
+        }
+        let mults = multipliers(&self.shape, tokens)?;
+        self.mults = Some(mults);
+        Ok(())
+    }
+
+    /// The line of `k`.
+    #[tactic(auto, unfolding(crate::specs::Statements::size_line))]
+    pub(crate) fn size(&mut self, tokens: &mut Tokens<'_>) -> Result<(), SourceFault>
+        ensures { Goes (size_line (above self.old) (left tokens.old)) (above self.new) result }
+    {
+        if self.sizes.is_some() {
+            return Err(SourceFault::Repeated);
+        }
+        let points = self.shape.order() + self.fixed.unwrap_or(0);
+        let set = sizes(self.version, u64::from(points.min(16)), tokens)?;
+        self.sizes = Some(size_list(&set));
         Ok(())
     }
 

@@ -1,0 +1,83 @@
+// Reads a whole source.
+ghost use Rattle.std.specs.Prelude.{◌≡◌, ◌≤◌, ◌^◌, length};
+ghost use Rattle.df_lang.specs.Drafts.{above, stated_above, Parses};
+ghost use Rattle.df_lang.specs.DraftRules.{StandsKept};
+ghost use Rattle.df_lang.specs.Sources.{whole};
+
+use crate::draft::Draft;
+use crate::fault::{Needed, ParseError, SourceError, SourceFault};
+use crate::parts::Which;
+use crate::problem::Problem;
+use crate::reader::read_lines;
+use crate::state::Reader;
+use arrayvec::ArrayVec;
+use std::alloc::Global;
+
+/// The problem that a source states, or the first line that breaks a rule: its number, from 1, with the first rule that it breaks.
+/// What a source has to state and doesn't is told at line 0. Condition: at most 4,294,967,296 bytes.
+pub fn parse(alloc: Global, source: &[u8]) -> Result<Problem, ParseError>
+    requires { length source.now ≤ 2 ^ 32 }
+    ensures { Parses source.now result }
+{
+    let reader = read_lines(alloc, source)?;
+    match finish(reader) {
+        Ok(problem) => Ok(problem),
+        Err(fault) => Err(ParseError::Refused(SourceError { line: 0, fault })),
+    }
+}
+
+// The end of a source: what is needed, and what holds where nothing is stated.
+#[tactic(auto, unfolding(crate::specs::Sources::whole))]
+fn finish(reader: Reader) -> Result<Problem, SourceFault>
+    requires { StandsKept (stated_above reader) }
+    ensures { result ≡ whole (stated_above reader) }
+{
+    let Reader { version: _, draft } = reader;
+    match draft {
+        Some(draft) => finish_draft(draft),
+        None => Err(SourceFault::Missing(Needed::Group)),
+    }
+}
+
+#[tactic(auto, unfolding(crate::specs::Sources::whole))]
+fn finish_draft(draft: Draft) -> Result<Problem, SourceFault>
+    requires { StandsKept (above draft) }
+    ensures { result ≡ whole (above draft) }
+{
+    let Draft {
+        version,
+        shape,
+        fixed,
+        names,
+        shift,
+        mults,
+        sizes,
+        lambda,
+        inside,
+        hole,
+        family,
+        required,
+        forbidden,
+    } = draft;
+    let Some(sizes) = sizes else {
+        return Err(SourceFault::Missing(Needed::Size));
+    };
+    let Some(lambda) = lambda else {
+        return Err(SourceFault::Missing(Needed::Lambda));
+    };
+    Ok(Problem {
+        version,
+        shape,
+        fixed: fixed.unwrap_or(0),
+        names,
+        shift: shift.unwrap_or(Which::All),
+        mults: mults.unwrap_or(ArrayVec::new()),
+        sizes,
+        lambda,
+        inside,
+        hole: hole.unwrap_or(lambda),
+        family,
+        required,
+        forbidden,
+    })
+}
