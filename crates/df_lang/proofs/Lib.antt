@@ -5,3 +5,5 @@ pub mod KeptOnce
 pub mod Lengths
 pub mod NamePlaces
 pub mod SizesRise
+pub mod LinesShort
+pub mod SectionsLeft

@@ -5,6 +5,7 @@
 
 mod blocks;
 mod draft;
+mod canonical;
 mod elements;
 mod fault;
 mod groups;
@@ -12,16 +13,18 @@ mod lookups;
 mod multipliers;
 mod names;
 mod parts;
-mod print;
+
 mod problem;
 mod reader;
 mod sizes;
 mod statements;
+mod put;
 mod texts;
 mod tokens;
 mod words;
 
 pub use fault::{Needed, ParseError, SourceError, SourceFault};
 pub use parts::{Inside, Kind, Member, Name, Which};
+pub use canonical::{line_count, print};
 pub use problem::Problem;
 pub use texts::{block_text_is_short, point_text_is_short, put_block, put_point};
