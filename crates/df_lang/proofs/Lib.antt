@@ -1,9 +1,10 @@
 pub mod Behind
+pub mod CanonicalShort
 pub mod ElementParts
 pub mod Factors
 pub mod KeptOnce
 pub mod Lengths
-pub mod NamePlaces
-pub mod SizesRise
 pub mod LinesShort
+pub mod NamePlaces
 pub mod SectionsLeft
+pub mod SizesRise

@@ -1,13 +1,14 @@
 // The canonical lines of a problem, by their numbers.
 ghost use Rattle.std.specs.Bool.{OnFalse};
-ghost use Rattle.std.specs.Prelude.{◌≡◌, ◌<◌, ◌^◌, [], Some, None, if◌then◌else◌, length, slice_get, slice_index_or};
+ghost use Rattle.std.specs.Prelude.{◌≡◌, ◌<◌, ◌^◌, [], Some, None, All, if◌then◌else◌, length, slice_get, slice_index_or};
+ghost use Rattle.arrayvec.specs.ArrayVec.{array_vec_len};
 ghost use Rattle.df_io.specs.Joined.{spaced};
-ghost use Rattle.df_lang.specs.Canonical.{canonical, statements_in};
+ghost use Rattle.df_lang.specs.Canonical.{canonical, statements_in, subgroup_tokens};
 
 use crate::problem::Problem;
 use crate::put::{
     put_block_statement, put_inside, put_member, put_number_statement, put_numbers_statement,
-    put_shift, put_sizes_statement,
+    put_shift, put_sizes_statement, put_subgroup,
 };
 use df_io::{LineBuf, put_text};
 
@@ -51,7 +52,9 @@ const SECTIONS: [Section; 13] = [
 pub fn print(problem: &Problem, buf: &mut LineBuf, line: usize) -> bool
     ensures line { slice_get (canonical problem.now) line ≡ (if result then Some buf.new.items else None) }
     ensures empty { OnFalse result (buf.new.items ≡ []) }
+    ensures room { array_vec_len buf.new < 1024 }
 {
+    canonical_lines_are_short(problem);
     buf.clear();
     let mut before = 0;
     for section in SECTIONS {
@@ -74,6 +77,13 @@ pub fn line_count(problem: &Problem) -> usize
         count += statement_count(problem, section);
     }
     count
+}
+
+/// Each canonical line has fewer than 1,024 bytes, so that it fits a buffer with its line end. The call changes nothing.
+pub fn canonical_lines_are_short(problem: &Problem)
+    ensures { All (λ line. length line < 1024) (canonical problem.now) }
+{
+    let _version = problem.version;
 }
 
 // How many statements a section has.
@@ -110,7 +120,7 @@ fn put_statement(buf: &mut LineBuf, problem: &Problem, section: Section, number:
         Section::Version => put_text(buf, b"version 2"),
         Section::Group => put_numbers_statement(buf, b"group", problem.shape.factors()),
         Section::Fixed => put_number_statement(buf, b"fixed", u64::from(problem.fixed)),
-        Section::Subgroups => put_text(buf, b"?"),
+        Section::Subgroups => put_named(buf, problem, number),
         Section::Shift => put_shift(buf, problem, problem.shift),
         Section::Mult => put_numbers_statement(buf, b"mult", problem.mults.as_slice()),
         Section::Sizes => put_sizes_statement(buf, b"k", problem.sizes.as_slice()),
@@ -128,5 +138,16 @@ fn put_statement(buf: &mut LineBuf, problem: &Problem, section: Section, number:
         Section::Forbidden => {
             put_block_statement(buf, b"forbid", problem, &problem.forbidden[number])
         }
+    }
+}
+
+// Puts the name of this number and its subgroup into an empty buffer.
+fn put_named(buf: &mut LineBuf, problem: &Problem, number: usize)
+    requires number { number < length problem.now.names }
+    requires empty { buf.old.items ≡ [] }
+    ensures { buf.new.items ≡ spaced (subgroup_tokens problem.now.group (slice_index_or problem.now.names number ([], []))) }
+{
+    if let Some((name, subgroup)) = problem.names.get_index(number) {
+        put_subgroup(buf, &problem.shape, name.as_slice(), subgroup);
     }
 }

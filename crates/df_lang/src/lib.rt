@@ -4,8 +4,8 @@
 #![tactic(auto)]
 
 mod blocks;
-mod draft;
 mod canonical;
+mod draft;
 mod elements;
 mod fault;
 mod groups;
@@ -13,18 +13,17 @@ mod lookups;
 mod multipliers;
 mod names;
 mod parts;
-
 mod problem;
+mod put;
 mod reader;
 mod sizes;
 mod statements;
-mod put;
 mod texts;
 mod tokens;
 mod words;
 
+pub use canonical::{canonical_lines_are_short, line_count, print};
 pub use fault::{Needed, ParseError, SourceError, SourceFault};
 pub use parts::{Inside, Kind, Member, Name, Which};
-pub use canonical::{line_count, print};
 pub use problem::Problem;
 pub use texts::{block_text_is_short, point_text_is_short, put_block, put_point};

@@ -4,13 +4,14 @@ ghost use Rattle.std.specs.Fmt.{decimal};
 ghost use Rattle.arrayvec.specs.ArrayVec.{array_vec_len};
 ghost use Rattle.df_io.specs.Joined.{spaced};
 ghost use Rattle.df_group.specs.Elements.{order_of};
-ghost use Rattle.df_lang.specs.Canonical.{element_text, which_text, number_tokens, block_tokens, member_tokens};
+ghost use Rattle.df_group.specs.Subgroups.{IsSubgroup};
+ghost use Rattle.df_lang.specs.Canonical.{element_text, which_text, number_tokens, subgroup_tokens, block_tokens, member_tokens};
 ghost use Rattle.df_lang.specs.Separated.{behind};
 
 use crate::parts::{Inside, Kind, Member, Which};
 use crate::problem::Problem;
 use crate::texts::{put_element, put_numbers_behind, put_points_behind};
-use df_group::{Elem, Shape};
+use df_group::{Elem, Shape, Subgroup};
 use df_io::{LineBuf, put_number, put_text};
 use df_subsets::Block;
 
@@ -62,13 +63,19 @@ pub(crate) fn put_block_statement(buf: &mut LineBuf, word: &[u8], problem: &Prob
     put_points_behind(buf, problem, block.points().as_slice());
 }
 
-/// Appends `subgroup`, a name and elements below the order.
-pub(crate) fn put_subgroup_statement(
-    buf: &mut LineBuf,
-    shape: &Shape,
-    name: &[u8],
-    elements: &[Elem],
-)
+/// Appends a name and the canonical generators of its subgroup.
+pub(crate) fn put_subgroup(buf: &mut LineBuf, shape: &Shape, name: &[u8], subgroup: &Subgroup)
+    requires subgroup { IsSubgroup shape.now subgroup.now }
+    requires room { array_vec_len buf.old + length (spaced (subgroup_tokens shape.now (name.now, subgroup.now))) ≤ 1024 }
+    ensures { buf.new.items ≡ buf.old.items ++ spaced (subgroup_tokens shape.now (name.now, subgroup.now)) }
+{
+    let _factors = shape.factors();
+    let generators = subgroup.canonical(shape);
+    put_subgroup_statement(buf, shape, name, generators.as_slice());
+}
+
+// Appends `subgroup`, a name and elements below the order.
+fn put_subgroup_statement(buf: &mut LineBuf, shape: &Shape, name: &[u8], elements: &[Elem])
     requires elements { All (λ e. e < order_of shape.now) elements.now }
     requires room { array_vec_len buf.old + length (spaced (codes "subgroup" ∷ name.now ∷ map (element_text shape.now) elements.now)) ≤ 1024 }
     ensures { buf.new.items ≡ buf.old.items ++ spaced (codes "subgroup" ∷ name.now ∷ map (element_text shape.now) elements.now) }
