@@ -1,5 +1,5 @@
 -- Texts in a row, each behind a byte.
-use Rattle.std.proofs.Common.{◌≡◌, ℕ, ◌+◌, ◌-◌, ◌<◌, ◌≤◌, List, [], ◌∷◌, ◌++◌, length, map, get_or, take, drop, sym, ap, ◌∙◌, arith, append-nil, length-append}
+use Rattle.std.proofs.Common.{◌≡◌, ℕ, ◌+◌, ◌-◌, ◌<◌, ◌≤◌, List, [], ◌∷◌, ◌++◌, length, map, get_or, take, drop, sym, ap, ◌∙◌, arith, append-nil, append_assoc, length-append}
 use Rattle.std.specs.List.{join_with_byte}
 use Rattle.std.proofs.lemmas.List.{drop_more, take_rest}
 use Rattle.df_lang.specs.Separated.{behind}
@@ -23,3 +23,11 @@ module _ (c : ℕ) (f : ℕ → List ℕ) (xs : List ℕ) (i d : ℕ) (h : i < l
       → length written + 1 + length (f (get_or xs i d)) ≤ 1024
   room_next written start e fits =
       omega (arith, fits, ap length e, length-append written (behind c (map f (drop i xs))), length-append start (behind c (map f xs)), ap length next_behind, length-append (f (get_or xs i d)) (behind c (map f (drop (i + 1) xs))))
+
+-- a word and texts behind it: room for the texts, and the whole
+module _ (start word : List ℕ) (texts : List (List ℕ)) where
+  pub room_behind : (put : List ℕ) → put ≡ start ++ word → length start + length (join_with_byte 32 (word ∷ texts)) ≤ 1024 → length put + length (behind 32 texts) ≤ 1024
+  room_behind put is fits = omega (arith, fits, ap length is, length-append start word, ap length (join_behind 32 word texts), length-append word (behind 32 texts))
+
+  pub whole_behind : (put end : List ℕ) → put ≡ start ++ word → end ≡ put ++ behind 32 texts → end ≡ start ++ join_with_byte 32 (word ∷ texts)
+  whole_behind put end is more = more ∙ ap (λ l. l ++ behind 32 texts) is ∙ append_assoc start word (behind 32 texts) ∙ ap (λ l. start ++ l) (sym (join_behind 32 word texts))

@@ -1,13 +1,16 @@
 pub mod Behind
+pub mod CanonicalShort
 pub mod ElementParts
 pub mod Factors
 pub mod KeptOnce
 pub mod Lengths
 pub mod LinesKept
 pub mod LinesRead
+pub mod LinesShort
 pub mod NamePlaces
 pub mod PointsKept
 pub mod RulesKept
+pub mod SectionsLeft
 pub mod SizesRise
 pub mod StatementsKept
 pub mod ValuesKept

@@ -10,8 +10,8 @@ use Rattle.df_lang.specs.declared.parts.Kind.{Kind}
 use Rattle.df_lang.specs.declared.parts.Kind.TheVariants as kind
 use Rattle.df_lang.specs.declared.parts.Inside.{Inside}
 use Rattle.df_lang.specs.declared.parts.Member.{Member}
-use Rattle.df_lang.specs.declared.print.Section.{Section}
-use Rattle.df_lang.specs.declared.print.Section.TheVariants as section
+use Rattle.df_lang.specs.declared.canonical.Section.{Section}
+use Rattle.df_lang.specs.declared.canonical.Section.TheVariants as section
 use Rattle.df_lang.specs.Problems.{Stated, Named}
 
 -- an element: its residues with commas between

@@ -5,6 +5,7 @@
 
 mod block_lines;
 mod blocks;
+mod canonical;
 mod draft;
 mod early;
 mod elements;
@@ -16,8 +17,8 @@ mod lookups;
 mod multipliers;
 mod names;
 mod parts;
-mod print;
 mod problem;
+mod put;
 mod reader;
 mod sizes;
 mod state;
@@ -26,6 +27,7 @@ mod texts;
 mod tokens;
 mod words;
 
+pub use canonical::{canonical_lines_are_short, line_count, print};
 pub use fault::{Needed, ParseError, SourceError, SourceFault};
 pub use finish::parse;
 pub use parts::{Inside, Kind, Member, Name, Which};
