@@ -2,6 +2,7 @@ pub mod ApartLaws
 pub mod GroupOfMaps
 pub mod KeptLaws
 pub mod MadeLaws
+pub mod MarkSteps
 pub mod NumberLaws
 pub mod ProductLaws
 pub mod SetLists
