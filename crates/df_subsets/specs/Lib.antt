@@ -1,2 +1,5 @@
 pub mod Blocks
+pub mod Orders
 pub mod SetLaws
+pub mod SubsetLaws
+pub mod Subsets

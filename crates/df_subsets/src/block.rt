@@ -8,7 +8,7 @@ ghost use Rattle.std.specs.Hash as fed;
 ghost use Rattle.std.specs.Hash.{items_Alike, same_Alike};
 ghost use Rattle.std.proofs.Common.{rules};
 ghost use Rattle.df_lists.specs.Membership.{In};
-ghost use Rattle.df_lists.specs.NumberSets.{has_member, with_member};
+ghost use Rattle.df_lists.specs.NumberSets.{has_member, with_member, members, weight};
 ghost use Rattle.df_subsets.specs.Blocks.{IsBlock, are_apart, increasing};
 
 use arrayvec::ArrayVec;
@@ -66,6 +66,20 @@ impl Block {
         ensures { result ≡ [] }
     {
         Block { bits: 0 }
+    }
+
+    // The block that these bits keep.
+    pub(crate) fn from_bits(bits: u128) -> Block
+        ensures { result ≡ members bits }
+    {
+        Block { bits }
+    }
+
+    // The bits that keep the block.
+    pub(crate) fn bits(&self) -> u128
+        ensures { result ≡ weight self.now }
+    {
+        self.bits
     }
 
     /// The block of these points, in whatever order they come.

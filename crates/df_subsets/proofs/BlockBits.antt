@@ -1,0 +1,117 @@
+-- The bits of blocks.
+use Rattle.std.proofs.Common.{◌≡◌, ℕ, suc, zero, ◌+◌, ◌-◌, ◌*◌, ◌/◌, ◌%◌, ◌^◌, ◌<◌, ◌≤◌, true, eqb, ◌++◌, List, [], ◌∷◌, length, refl, sym, add-one, ap, ◌∙◌, inl, inr, arith, bit_or, bit_and, ⊎_elim, eq-eqb, ne_eqb, lt-ltb, le-ltb, get_or}
+use Rattle.std.specs.Int.{bit_at}
+use Rattle.std.specs.List.{range_with_len}
+use Rattle.std.proofs.lemmas.Bool.{cases_lt, both_ways, or_right}
+use Rattle.std.proofs.lemmas.Nat.{pow-add, shl-shr, or_disjoint, one_shl}
+use Rattle.std.proofs.lemmas.Nat.Bits.{and_pow}
+use Rattle.std.proofs.lemmas.List.Sums.{sum_by-cons, sum_by-append}
+use Rattle.std.proofs.Math.Nat.{two-pow-succ, pow-le-pow_right, mul-mod_left, div-eq_of_lt}
+use Rattle.df_lists.specs.Membership.{In}
+use Rattle.df_lists.specs.NumberSets.{has_member, with_member, members, weight}
+use Rattle.df_lists.specs.BitLaws.{members_put, has_members}
+use Rattle.df_subsets.specs.Blocks.{Rises, IsBlock}
+use Rattle.df_subsets.proofs.BlockLaws.{Rises-wider, Rises-below, members_rise}
+
+-- a point that is before all of a block is put in front
+pub with_first : (p v : ℕ) (b : List ℕ) → Rises (p + 1) v b → with_member p b ≡ p ∷ b
+with_first p v [] r = refl
+with_first p v (q ∷ b) r = rw (lt-ltb p q (omega (arith, r.0))) refl
+
+-- a point that is after all of a block is put at its end
+pub with_last : (low p : ℕ) (b : List ℕ) → Rises low p b → with_member p b ≡ b ++ p ∷ []
+with_last low p [] r = refl
+with_last low p (q ∷ b) r = rw (le-ltb p q (omega (arith, r.1)), ne_eqb p q (λ e. absurd (omega (arith, e, r.1)))) (ap (λ l. q ∷ l) (with_last (q + 1) p b r.2))
+
+pub point_below : (low v : ℕ) (b : List ℕ) (i d : ℕ) → Rises low v b → i < length b → get_or b i d < v
+point_below low v [] i d r h = absurd (omega arith)
+point_below low v (p ∷ b) zero d r h = r.1
+point_below low v (p ∷ b) (suc i) d r h = point_below (p + 1) v b i d r.2 (omega arith)
+
+-- the weight of points from low on is a multiple of 2 ^ low
+weight_multiple : (low v : ℕ) (b : List ℕ) → Rises low v b → (m : ℕ) × (weight b ≡ m * 2 ^ low)
+weight_multiple low v [] r = (0, omega arith)
+weight_multiple low v (p ∷ b) r =
+    let more = weight_multiple (p + 1) v b r.2 in
+    let m = more.0 in
+    let twice : 2 ^ (p + 1) ≡ 2 * 2 ^ p = ap (λ n. 2 ^ n) (omega arith) ∙ two-pow-succ p ∙ omega arith in
+    let sum : weight (p ∷ b) ≡ 2 ^ p + m * 2 ^ (p + 1) = sum_by-cons (λ i. 2 ^ i) p b ∙ ap (λ n. 2 ^ p + n) more.1 in
+    let here : weight (p ∷ b) ≡ (1 + 2 * m) * 2 ^ p = sum ∙ ap (λ n. 2 ^ p + m * n) twice ∙ omega arith in
+    let shift : 2 ^ p ≡ 2 ^ (p - low) * 2 ^ low = ap (λ n. 2 ^ n) (omega (arith, r.0)) ∙ pow-add 2 (p - low) low in
+    ((1 + 2 * m) * 2 ^ (p - low), here ∙ ap (λ n. (1 + 2 * m) * n) shift ∙ omega arith)
+
+-- no bit below low is set
+pub weight_clear : (p v : ℕ) (b : List ℕ) → Rises (p + 1) v b → bit_at (weight b) p ≡ 0
+weight_clear p v b r =
+    let more = weight_multiple (p + 1) v b r in
+    let twice : more.0 * 2 ^ (p + 1) ≡ more.0 * 2 * 2 ^ p = ap (λ n. more.0 * 2 ^ n) (omega arith) ∙ ap (λ n. more.0 * n) (two-pow-succ p) ∙ omega arith in
+    ap (λ n. n / 2 ^ p % 2) (more.1 ∙ twice) ∙ ap (λ n. n % 2) (shl-shr (more.0 * 2) p) ∙ mul-mod_left more.0 2
+
+-- the bits of a block have its points
+pub members_weight : (low v : ℕ) (b : List ℕ) → v ≤ 128 → Rises low v b → members (weight b) ≡ b
+unfolding members
+members_weight low v [] h r = refl
+members_weight low v (p ∷ b) h r =
+    let clear : bit_and (weight b) (2 ^ p) ≡ 0 = and_pow (weight b) p ∙ ap (λ n. n * 2 ^ p) (weight_clear p v b r.2) ∙ omega arith in
+    let small : p < 128 = omega (arith, r.1) in
+    let joined : bit_or (weight b) (1 * 2 ^ p % 2 ^ 128) ≡ weight (p ∷ b) = ap (bit_or (weight b)) (one_shl p 128 small) ∙ or_disjoint (weight b) (2 ^ p) clear ∙ omega (arith, sum_by-cons (λ i. 2 ^ i) p b) in
+    sym (ap members joined) ∙ members_put (weight b) p small ∙ ap (with_member p) (members_weight (p + 1) v b h r.2) ∙ with_first p v b r.2
+
+-- the points below a bound have bits below its power
+pub weight_bound : (low v : ℕ) (b : List ℕ) → low ≤ v → Rises low v b → weight b + 2 ^ low ≤ 2 ^ v
+weight_bound low v [] h r = let l = pow-le-pow_right {n = 2} (omega arith) {i = low} {j = v} h in omega (arith, l)
+weight_bound low v (p ∷ b) h r =
+    let ih = weight_bound (p + 1) v b (omega (arith, r.1)) r.2 in
+    let twice : 2 ^ (p + 1) ≡ 2 ^ p + 2 ^ p = ap (λ n. 2 ^ n) (omega arith) ∙ two-pow-succ p in
+    let low_power = pow-le-pow_right {n = 2} (omega arith) {i = low} {j = p} r.0 in
+    omega (arith, ih, twice, low_power, sum_by-cons (λ i. 2 ^ i) p b)
+
+-- the weight of a run
+pub weight_run : (a t : ℕ) → weight (range_with_len a t) + 2 ^ a ≡ 2 ^ (a + t)
+weight_run a zero = let same : 2 ^ (a + 0) ≡ 2 ^ a = ap (λ n. 2 ^ n) {x = a + 0} {y = a} (omega arith) in omega (arith, same)
+weight_run a (suc t) =
+    let ih = weight_run (a + 1) t in
+    let twice : 2 ^ (a + 1) ≡ 2 ^ a + 2 ^ a = ap (λ n. 2 ^ n) (omega arith) ∙ two-pow-succ a in
+    let same : 2 ^ (a + 1 + t) ≡ 2 ^ (a + suc t) = ap (λ n. 2 ^ n) (omega arith) in
+    omega (arith, ih, twice, same, sum_by-cons (λ i. 2 ^ i) a (range_with_len (a + 1) t))
+
+-- a run that begins one point lower
+pub run_more : (v t : ℕ) → t < v → weight (range_with_len (v - (t + 1)) (t + 1)) ≡ 2 ^ (v - 1 - t) + weight (range_with_len (v - t) t)
+run_more v t h =
+    ap (λ n. weight (range_with_len (v - (t + 1)) n)) (add-one t)
+    ∙ sum_by-cons (λ i. 2 ^ i) (v - (t + 1)) (range_with_len (v - (t + 1) + 1) t)
+    ∙ ap (λ a. 2 ^ a + weight (range_with_len (v - (t + 1) + 1) t)) {x = v - (t + 1)} {y = v - 1 - t} (omega arith)
+    ∙ ap (λ b. 2 ^ (v - 1 - t) + weight (range_with_len b t)) {x = v - (t + 1) + 1} {y = v - t} (omega arith)
+
+pub weight-append : (a b : List ℕ) → weight (a ++ b) ≡ weight a + weight b
+weight-append a b = sum_by-append (λ i. 2 ^ i) a b
+
+-- runs and joined blocks rise
+pub run_rises : (a t v : ℕ) → a + t ≤ v → Rises a v (range_with_len a t)
+run_rises a zero v h = tt
+run_rises a (suc t) v h = (omega arith, omega arith, run_rises (a + 1) t v (omega arith))
+
+pub Rises-append : (low m v : ℕ) (a b : List ℕ) → low ≤ m → m ≤ v → Rises low m a → Rises m v b → Rises low v (a ++ b)
+Rises-append low m v [] b h k r s = Rises-wider low m v v b h (omega arith) s
+Rises-append low m v (p ∷ a) b h k r s = (r.0, omega (arith, r.1), Rises-append (p + 1) m v a b (omega (arith, r.1)) k r.2 s)
+
+In-has : (b : List ℕ) (p : ℕ) → In b p → has_member b p ≡ true
+In-has (q ∷ b) p (inl e) = rw (eq-eqb q p e) refl
+In-has (q ∷ b) p (inr i) = or_right (eqb q p) (has_member b p) (In-has b p i)
+In-has [] p i = absurd i
+
+Rises-bound : (low v : ℕ) (b : List ℕ) (p : ℕ) → Rises low v b → In b p → p < v
+Rises-bound low v [] p r i = absurd i
+Rises-bound low v (q ∷ b) p r (inl e) = omega (arith, r.1, e)
+Rises-bound low v (q ∷ b) p r (inr i) = Rises-bound (q + 1) v b p r.2 i
+
+-- bits below a power of 2 are those of points below its exponent
+pub members_low : (bits n : ℕ) → n ≤ 128 → bits < 2 ^ n → IsBlock n (members bits)
+members_low bits n h small = Rises-below 0 n 128 (members bits) (members_rise bits) (λ p i. ⊎_elim (λ l. l) (λ g. absurd (beyond p g i)) (cases_lt p n))
+  where
+    beyond : (p : ℕ) → n ≤ p → In (members bits) p → ⊥
+    beyond p g i =
+        let r = Rises-bound 0 128 (members bits) p (members_rise bits) i in
+        let high = pow-le-pow_right {n = 2} (omega arith) {i = n} {j = p} g in
+        let none : bits / 2 ^ p ≡ 0 = div-eq_of_lt (omega (arith, small, high)) in
+        both_ways (has_member (members bits) p) (has_members bits p r ∙ ap (λ q. eqb (q % 2) 1) none) (In-has (members bits) p i)
