@@ -1,5 +1,7 @@
 pub mod ApartLaws
+pub mod FilterSteps
 pub mod GroupOfMaps
+pub mod ImageSteps
 pub mod KeptLaws
 pub mod MadeLaws
 pub mod MarkSteps

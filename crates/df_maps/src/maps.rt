@@ -95,8 +95,9 @@ impl Maps {
         ensures size { length result ≡ length block.now }
     {
         let mut image = Block::empty();
-        for p in block.points() {
-            image.insert(self.image_point(i, p));
+        let points = block.points();
+        for p in points.as_slice() {
+            image.insert(self.image_point(i, *p));
         }
         image
     }
@@ -108,9 +109,10 @@ fn members_of(shape: &Shape, subgroup: &Subgroup) -> ArrayVec<Elem, 128>
 {
     let mut members = ArrayVec::new();
     for number in 0..shape.order() {
-        if subgroup.has(Elem(number)) {
-            members.push(Elem(number));
+        if !subgroup.has(Elem(number)) {
+            continue;
         }
+        members.push(Elem(number));
     }
     members
 }

@@ -16,9 +16,10 @@ pub fn residues_of_products(exponent: u8, mults: &[u16]) -> ArrayVec<u8, 128>
     reach(&mut reached, exponent, mults);
     let mut residues = ArrayVec::new();
     for r in 0..exponent {
-        if reached[usize::from(r)] {
-            residues.push(r);
+        if !reached[usize::from(r)] {
+            continue;
         }
+        residues.push(r);
     }
     residues
 }

@@ -1,0 +1,1 @@
+use Rattle.df_maps.proofs.maps.Maps.count.Goals as goal
