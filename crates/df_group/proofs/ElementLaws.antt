@@ -121,6 +121,7 @@ group_of_positive fs is = record {
   neg = λ a.
       let back = residues_number fs (negative_of fs (residues fs a)) (negatives_are fs (residues fs a) is (residues_are fs is a)) in
       ap (λ rs. number fs (sum_of fs (residues fs a) rs)) back ∙ sums_negatives fs (residues fs a) is (residues_are fs is a);
+  neg_within = λ a. number_within fs (negative_of fs (residues fs a)) (negatives_are fs (residues fs a) is (residues_are fs is a));
 }
 
 -- a product of cyclic groups is a group on the numbers of its elements

@@ -58,6 +58,15 @@ module _ (G : Group) (is : IsGroup G) where
   pub plus_minus : (a c : ℕ) → c < G.order → minus G (G.plus a c) a ≡ c
   plus_minus a c h = ap (λ y. minus G y a) (is.comm a c) ∙ more_less c a h
 
+  -- what adds to 0 is the negative
+  pub neg_is : (a b : ℕ) → b < G.order → G.plus a b ≡ 0 → b ≡ G.neg a
+  neg_is a b h e = sym (plus_minus a b h) ∙ ap (λ y. minus G y a) e ∙ zero_plus (G.neg a) (is.neg_within a)
+
+  -- a + b + c + d, the two in the middle turned
+  pub plus_four : (a b c d : ℕ) → G.plus (G.plus a b) (G.plus c d) ≡ G.plus (G.plus a c) (G.plus b d)
+  plus_four a b c d =
+      is.assoc a b (G.plus c d) ∙ ap (G.plus a) (sym (is.assoc b c d) ∙ ap (λ y. G.plus y d) (is.comm b c) ∙ is.assoc c b d) ∙ sym (is.assoc a c (G.plus b d))
+
   -- g goes to p - g and back
   pub turns_minus : (p : ℕ) → p < G.order → Turns G.order (minus G p) (minus G p)
   turns_minus p h = record { within = λ i l. is.within p (G.neg i); within_back = λ i l. is.within p (G.neg i); returns = λ i l. minus_minus p i h l; returns_back = λ i l. minus_minus p i h l }

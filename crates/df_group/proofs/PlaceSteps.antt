@@ -104,3 +104,9 @@ number_end fs rs i place n l e =
 
 pub put_all : (done rest whole : List ℕ) → done ++ rest ≡ whole → rest ≡ [] → done ≡ whole
 put_all done rest whole e none = sym (append-nil done) ∙ ap (λ l. done ++ l) (sym none) ∙ e
+
+-- the element before the place i comes in front of those from i on
+pub drop_before : (xs : List ℕ) (i x : ℕ) → 0 < i → i ≤ length xs → x ≡ get_or xs (i - 1) x → drop (i - 1) xs ≡ x ∷ drop i xs
+drop_before xs i x some within is =
+    let back : i - 1 + 1 ≡ i = omega arith in
+    drop_more xs (i - 1) x (omega arith) ∙ ap (λ y. y ∷ drop (i - 1 + 1) xs) (sym is) ∙ ap (λ k. x ∷ drop k xs) back

@@ -75,6 +75,7 @@ pub record IsGroup (G : Group) : Type 0 where
   pub assoc : (a b c : ℕ) → G.plus (G.plus a b) c ≡ G.plus a (G.plus b c)
   pub zero : (a : ℕ) → a < G.order → G.plus a 0 ≡ a
   pub neg : (a : ℕ) → G.plus a (G.neg a) ≡ 0
+  pub neg_within : (a : ℕ) → G.neg a < G.order
 
 abbrev pub IsFactor : ℕ → Type 0
 IsFactor f = (2 ≤ f) × (f ≤ 128)

@@ -1,3 +1,4 @@
+pub mod ClosedSets
 pub mod Elements
 pub mod Multiples
 pub mod Places

@@ -1,7 +1,7 @@
 -- Units, and subgroups as the increasing lists of their members' numbers.
 use Rattle.std.specs.Prelude.{◌≡◌, ◌==◌, ℕ, ◌-◌, ◌%◌, Bool, not, ◌&&◌, List, [], ◌∷◌, ◌++◌, map, find, unwrap_or, if◌then◌else◌}
 use Rattle.std.specs.List.{flat_map, range_with_len, list_any, list_all}
-use Rattle.df_lists.specs.NumberSets.{has_member, set_of}
+use Rattle.df_lists.specs.NumberSets.{has_member, set_of, IsSet}
 use Rattle.df_group.specs.Elements.{order_of, group_of, minus}
 
 -- each factor divides n
@@ -45,3 +45,7 @@ IsSubgroup fs members = (generators : List ℕ) × (generated fs generators ≡ 
 -- two elements lie in one coset where their difference is in the subgroup
 abbrev pub same_coset : List ℕ → List ℕ → ℕ → ℕ → Bool
 same_coset fs members a b = has_member members (minus (group_of fs) a b)
+
+-- the list is the increasing list of its members, which lie below 128
+unfoldable pub IsKept : List ℕ → Type 0
+IsKept set = IsSet 128 set

@@ -9,7 +9,8 @@ mod shape;
 mod subgroup;
 
 pub use laws::{
-    elements_are_numbered, multiples_are_multiples, products_are_groups, units_are_undone,
+    elements_are_numbered, multiples_are_multiples, products_are_groups, subgroups_are_closed,
+    units_are_undone,
 };
 pub use shape::{Elem, Shape, ShapeError};
 pub use subgroup::Subgroup;

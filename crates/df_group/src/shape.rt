@@ -105,9 +105,20 @@ impl Shape {
         self.factors.as_slice()
     }
 
+    /// The neutral element: all its residues are 0, and so is its number.
+    pub fn zero(&self) -> Elem
+        ensures zero { result ≡ 0 }
+        ensures below { result < order_of self.now }
+        ensures shape { IsShape self.now }
+    {
+        let _ = &self.order;
+        Elem(0)
+    }
+
     /// The number of elements, from 2 to 128.
     pub fn order(&self) -> u8
         ensures order { result ≡ order_of self.now }
+        ensures shape { IsShape self.now }
         ensures low { 2 ≤ result }
         ensures high { result ≤ 128 }
     {
@@ -117,6 +128,7 @@ impl Shape {
     /// The least common multiple of the factors, from 2 to 128: the least number from 1 on that each factor divides.
     pub fn exponent(&self) -> u8
         ensures exponent { result ≡ exponent_of self.now }
+        ensures shape { IsShape self.now }
         ensures multiple { All (λ f. result % f ≡ 0) self.now }
         ensures least { (n : ℕ) → 0 < n → All (λ f. n % f ≡ 0) self.now → result ≤ n }
         ensures low { 2 ≤ result }

@@ -1,12 +1,20 @@
 // Subgroups, as sets of 128 bits.
-ghost use Rattle.std.specs.Prelude.{◌≡◌};
-ghost use Rattle.df_lists.specs.NumberSets.{has_member};
+ghost use Rattle.std.specs.Prelude.{◌≡◌, ◌==◌, ◌<◌, ◌≤◌, ℕ, ◌&&◌, ◌||◌, List, [], ◌∷◌, All, length, nat_eq};
+ghost use Rattle.std.specs.List.{range_with_len};
+ghost use Rattle.std.specs.Cmp.Lexicographic.{pointwise, lists_per, lists_equiv};
+ghost use Rattle.std.specs.Cmp.Rules.{comparing};
+ghost use Rattle.std.proofs.Common.{rules};
+ghost use Rattle.df_lists.specs.LeastMembers.{any_below};
+ghost use Rattle.df_lists.specs.NumberSets.{has_member, is_set, with_member};
+ghost use Rattle.df_group.specs.Elements.{order_of, group_of, IsShape};
+ghost use Rattle.df_group.specs.Subgroups.{generated, canonical_of, same_coset, IsKept, IsSubgroup};
 
-use crate::shape::Elem;
+use crate::shape::{Elem, Shape};
+use arrayvec::ArrayVec;
 use std::marker::Model;
 
-/// A set of elements, seen as the increasing list of their numbers.
-#[derive(Clone, Copy)]
+/// A set of elements of a group with at most 128 elements, seen as the increasing list of their numbers.
+#[derive(Clone, Copy, Debug)]
 pub struct Subgroup {
     bits: u128,
 }
@@ -26,4 +34,162 @@ impl Model for Subgroup {
     ghost inverse = { λ set. record { bits = weight set } };
 
     ghost inverse_ok = { λ a h. ap (λ n. record { bits = n }) (weight_members a.bits h) };
+}
+
+impl Subgroup {
+    /// The subgroup of these generators, which are below the order: all sums of their multiples. Without generators it holds 0 alone.
+    pub fn generate(shape: &Shape, generators: &[Elem]) -> Subgroup
+        requires { All (λ g. g < order_of shape.now) generators.now }
+        ensures { result ≡ generated shape.now generators.now }
+    {
+        let mut subgroup = Subgroup::trivial(shape);
+        for i in (0..generators.len()).rev() {
+            let generator = generators[i];
+            if subgroup.has(generator) {
+                continue;
+            }
+            subgroup = subgroup.extended(shape, generator);
+        }
+        subgroup
+    }
+
+    /// The subgroup of 0 alone, which has no generators.
+    pub fn trivial(shape: &Shape) -> Subgroup
+        ensures members { result ≡ 0 ∷ [] }
+        ensures generated { result ≡ generated shape.now [] }
+        ensures shape { IsShape shape.now }
+    {
+        let mut trivial = Subgroup::empty();
+        trivial.put(shape.zero());
+        trivial
+    }
+
+    /// The subgroup of all elements.
+    pub fn whole(shape: &Shape) -> Subgroup
+        ensures members { result ≡ range_with_len 0 (order_of shape.now) }
+        ensures subgroup { IsSubgroup shape.now result }
+    {
+        let mut whole = Subgroup::empty();
+        for e in 0..shape.order() {
+            whole.put(Elem(e));
+        }
+        whole
+    }
+
+    /// Whether an element is a member, for any number.
+    pub fn has(&self, e: Elem) -> bool
+        ensures { result ≡ has_member self.now e }
+    {
+        e.0 < 128 && is_kept(self.bits, e.0)
+    }
+
+    /// The number of members, at most 128.
+    pub fn order(&self) -> u8
+        ensures { result ≡ length self.now }
+    {
+        let mut order = 0;
+        for e in 0..128u8 {
+            if is_kept(self.bits, e) {
+                order += 1;
+            }
+        }
+        order
+    }
+
+    /// The canonical generators of a subgroup of this shape's group: its members in order, each one that isn't in the subgroup of those taken before.
+    pub fn canonical(&self, shape: &Shape) -> ArrayVec<Elem, 7>
+        requires { IsSubgroup shape.now self.now }
+        ensures canonical { result.items ≡ canonical_of shape.now self.now }
+        ensures same { generated shape.now result.items ≡ self.now }
+    {
+        let mut generators = ArrayVec::new();
+        let mut generated = Subgroup::trivial(shape);
+        for number in 0..shape.order() {
+            let e = Elem(number);
+            if !self.has(e) {
+                continue;
+            }
+            if generated.has(e) {
+                continue;
+            }
+            generated = generated.extended(shape, e);
+            generators.push(e);
+        }
+        generators
+    }
+
+    /// Whether the difference of two elements below the order is a member, for a subgroup of this shape's group.
+    pub fn same_coset(&self, shape: &Shape, a: Elem, b: Elem) -> bool
+        requires subgroup { IsSubgroup shape.now self.now }
+        requires a { a < order_of shape.now }
+        requires b { b < order_of shape.now }
+        ensures { result ≡ same_coset shape.now self.now a b }
+    {
+        self.has(shape.sub(a, b))
+    }
+
+    // The subgroup with one more generator: all sums of a multiple of it and a member.
+    fn extended(&self, shape: &Shape, generator: Elem) -> Subgroup
+        requires { generator < order_of shape.now }
+        ensures { (gs : List ℕ) → self.now ≡ generated shape.now gs → result ≡ generated shape.now (generator ∷ gs) }
+    {
+        let mut extended = Subgroup::empty();
+        for c in 0..shape.exponent() {
+            extended.put_coset(shape, self, shape.times(u32::from(c), generator));
+        }
+        extended
+    }
+
+    // Puts in each sum of `shift` and a member of the subgroup.
+    fn put_coset(&mut self, shape: &Shape, subgroup: &Subgroup, shift: Elem)
+        requires kept { IsKept self.old }
+        requires shift { shift < order_of shape.now }
+        ensures kept { IsKept self.new }
+        ensures members { (x : ℕ) → has_member self.new x
+            ≡ (has_member self.old x || any_below (λ s. has_member subgroup.now s && (group_of shape.now).plus shift s == x) (order_of shape.now)) }
+    {
+        for number in 0..shape.order() {
+            let s = Elem(number);
+            if !subgroup.has(s) {
+                continue;
+            }
+            self.put(shape.add(shift, s));
+        }
+    }
+
+    fn empty() -> Subgroup
+        ensures none { result ≡ [] }
+        ensures kept { IsKept result }
+    {
+        Subgroup { bits: 0 }
+    }
+
+    fn put(&mut self, e: Elem)
+        requires { e < 128 }
+        ensures member { self.new ≡ with_member e self.old }
+        ensures kept { IsKept self.new }
+    {
+        self.bits |= 1 << e.0;
+    }
+}
+
+impl PartialEq for Subgroup {
+    ghost eq = { pointwise nat_eq };
+
+    ghost laws = { Prim.search (comparing, rules, lists_per) };
+
+    fn eq(&self, other: &Self) -> bool {
+        self.bits == other.bits
+    }
+}
+
+impl Eq for Subgroup {
+    ghost laws = { Prim.search (comparing, rules, lists_equiv) };
+}
+
+fn is_kept(bits: u128, e: u8) -> bool
+    requires { e < 128 }
+    ensures { result ≡ is_set bits e }
+{
+    (bits >> e) & 1 == 1
 }
