@@ -1,10 +1,14 @@
 // The group of maps x -> mx + h as a value.
 ghost use Rattle.std.specs.Prelude.{◌≡◌, ◌<◌, ◌≤◌, ◌+◌, ℕ, true, All, length, filter};
 ghost use Rattle.std.specs.List.{range_with_len};
+ghost use Rattle.df_lists.specs.Membership.{In, count};
 ghost use Rattle.df_lists.specs.NumberSets.{has_member};
 ghost use Rattle.df_group.specs.Elements.{order_of};
 ghost use Rattle.df_group.specs.Subgroups.{exponent_of, is_unit, IsSubgroup};
-ghost use Rattle.df_subsets.specs.Blocks.{IsBlock};
+ghost use Rattle.df_subsets.specs.Blocks.{IsBlock, before};
+ghost use Rattle.df_subsets.specs.Subsets.{subsets, same_list};
+ghost use Rattle.df_acting.specs.Classes.{in_one_class};
+ghost use Rattle.df_acting.specs.Earliest.{is_earliest, earliest_image};
 ghost use Rattle.df_maps.specs.FullMaps.{maps_of, point_count, full_maps, map_number, carried, image};
 ghost use Rattle.df_maps.specs.Laws.{AreGroup};
 
@@ -63,6 +67,7 @@ impl Maps {
     /// The number of maps, at least 1 and at most 16,384. No two of them are alike.
     pub fn count(&self) -> u32
         ensures count { result ≡ length (full_maps self.now) }
+        ensures maps { AreGroup self.now }
         ensures some { 0 < result }
         ensures small { result ≤ 16384 }
     {
@@ -70,20 +75,15 @@ impl Maps {
     }
 
     /// Where map number `i`, below the count, carries a point below the number of points.
-    /// With h counted from 0 to the last of H, map number i is x -> mx + h with the (i div |H|)-th product as m and the (i mod |H|)-th member of H as h.
+    /// Map number i is x -> mx + h with the (i div |H|)-th product as m and the (i mod |H|)-th member of H as h, both counted from 0.
     pub fn image_point(&self, i: u32, p: Point) -> Point
         requires number { i < length (full_maps self.now) }
         requires point { p < point_count self.now }
         ensures image { result ≡ carried self.now (map_number self.now i) p }
         ensures below { result < point_count self.now }
     {
-        if p.0 >= self.shape.order() {
-            return p;
-        }
-        let width = self.shifts.len() as u32;
-        let m = self.products[(i / width) as usize];
-        let h = self.shifts[(i % width) as usize];
-        Point(self.shape.add(self.shape.times(u32::from(m), Elem(p.0)), h).0)
+        let (m, h) = self.numbered(i);
+        self.carry(m, h, p)
     }
 
     /// The image of a block of points below the number of points under map number `i`, below the count.
@@ -94,12 +94,86 @@ impl Maps {
         ensures block { IsBlock (point_count self.now) result }
         ensures size { length result ≡ length block.now }
     {
+        let (m, h) = self.numbered(i);
         let mut image = Block::empty();
         let points = block.points();
         for p in points.as_slice() {
-            image.insert(self.image_point(i, *p));
+            image.insert(self.carry(m, h, *p));
         }
         image
+    }
+
+    /// Whether no image of a block of points below the number of points is earlier than the block.
+    pub fn is_least(&self, block: &Block) -> bool
+        requires { IsBlock (point_count self.now) block.now }
+        ensures { result ≡ is_earliest before (image self.now) (full_maps self.now) block.now }
+    {
+        for i in 0..self.count() {
+            if self.image_block(i, block) < *block {
+                return false;
+            }
+        }
+        true
+    }
+
+    /// The earliest image of a block of points below the number of points.
+    pub fn least_image(&self, block: &Block) -> Block
+        requires { IsBlock (point_count self.now) block.now }
+        ensures image { result ≡ earliest_image before (image self.now) (full_maps self.now) block.now }
+        ensures block { IsBlock (point_count self.now) result }
+        ensures size { length result ≡ length block.now }
+    {
+        let mut least = *block;
+        for i in 0..self.count() {
+            let image = self.image_block(i, block);
+            if image < least {
+                least = image;
+            }
+        }
+        least
+    }
+
+    /// The number of different images of a block of points below the number of points.
+    pub fn orbit_size(&self, block: &Block) -> u32
+        requires { IsBlock (point_count self.now) block.now }
+        ensures { result ≡ count (in_one_class same_list (image self.now) (full_maps self.now) block.now) (subsets (point_count self.now) (length block.now)) }
+    {
+        let mut fixing = 0;
+        for i in 0..self.count() {
+            if self.image_block(i, block) == *block {
+                fixing += 1;
+            }
+        }
+        self.count() / fixing
+    }
+
+    // m and h of map number i.
+    fn numbered(&self, i: u32) -> (u8, Elem)
+        requires { i < length (full_maps self.now) }
+        ensures map { result ≡ map_number self.now i }
+        ensures shift { result.1 < order_of self.now.factors }
+        ensures member { In (full_maps self.now) result }
+        ensures small { point_count self.now ≤ 128 }
+        ensures maps { AreGroup self.now }
+    {
+        let width = self.shifts.len() as u32;
+        (
+            self.products[(i / width) as usize],
+            self.shifts[(i % width) as usize],
+        )
+    }
+
+    // mp + h for an element p; each fixed point stays.
+    fn carry(&self, m: u8, h: Elem, p: Point) -> Point
+        requires shift { h < order_of self.now.factors }
+        requires point { p < point_count self.now }
+        ensures image { result ≡ carried self.now (m, h) p }
+        ensures below { result < point_count self.now }
+    {
+        if p.0 >= self.shape.order() {
+            return p;
+        }
+        Point(self.shape.add(self.shape.times(u32::from(m), Elem(p.0)), h).0)
     }
 }
 

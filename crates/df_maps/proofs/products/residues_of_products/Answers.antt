@@ -1,4 +1,4 @@
-use Rattle.std.proofs.Common.{◌≡◌, ◌∙◌, ◌∷◌, ◌++◌, [], ℕ, Bool, ap, sym, true, false, get_or, arith, filter, get_or-replicate}
+use Rattle.std.proofs.Common.{◌≡◌, ◌∙◌, ◌∷◌, ◌++◌, [], ℕ, Bool, ap, sym, true, false, get_or, arith, filter, refl, zero, suc, replicate}
 use Rattle.std.specs.List.{range_with_len}
 use Rattle.df_lists.specs.NumberSets.{has_member}
 use Rattle.df_maps.specs.Products.{products}
@@ -7,8 +7,14 @@ use Rattle.df_maps.proofs.ProductLaws.{products_are}
 use Rattle.df_maps.proofs.FilterSteps.{picked, passed, longer}
 use Rattle.df_maps.proofs.products.residues_of_products.Goals as goal
 
+-- no mark is set at the start
+all_false : (n r : ℕ) → get_or (replicate n false) r false ≡ false
+all_false zero r = refl
+all_false (suc n) zero = refl
+all_false (suc n) (suc r) = all_false n r
+
 pub reach-requires-clause-none : goal.reach-requires-clause-none
-reach-requires-clause-none c = λ r. get_or-replicate 128 r false
+reach-requires-clause-none c = λ r. all_false 128 r
 
 pub loop-r-preserved : goal.loop-r-preserved
 loop-r-preserved c = (
