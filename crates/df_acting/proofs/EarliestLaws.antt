@@ -5,7 +5,8 @@ use Rattle.std.specs.List.{list_any}
 use Rattle.df_lists.specs.Membership.{In}
 use Rattle.df_lists.proofs.MemberLaws.{In-append_left, In-append_right, In-append_cases, In-map, In-map_gives}
 use Rattle.df_acting.specs.Classes.{IsEquality, IsMapGroup, IsSpread, in_one_class}
-use Rattle.df_acting.specs.Earliest.{IsOrder, IsSorted, is_earliest, earliest, earliest_image}
+use Rattle.df_subsets.specs.Orders.{IsOrder, IsSorted}
+use Rattle.df_acting.specs.Earliest.{is_earliest, earliest, earliest_image}
 use Rattle.df_acting.proofs.TestLaws.{same_tests, any_from, any_gives, all_from, all_gives}
 use Rattle.df_acting.proofs.ClassLaws.{class_from, class_gives, class_same, class_comm}
 
@@ -123,23 +124,3 @@ module _ {M X : Type 0} (eq : X → X → Bool) (act : M → X → X) (D : X →
           (any_from (λ d. in_one_class eq act maps d x) done (act g x) j (class_comm eq act D maps E G (act g x) x (G.stays g i x (S.inside x here)) (S.inside x here) ∙ class_from eq act D maps E G g x (act g x) i refl)))
           (λ j. not_later (act g x) j l)
           (In-append_cases done (x ∷ rest) (act g x) (S.moves g i x here)))))
-
--- a sorted list is told by its members
-pub sorted_same : {X : Type 0} (earlier : X → X → Bool) → IsOrder earlier → (xs ys : List X) → IsSorted earlier xs → IsSorted earlier ys → ((x : X) → In xs x → In ys x) → ((x : X) → In ys x → In xs x) → xs ≡ ys
-sorted_same earlier O [] [] s t f g = refl
-sorted_same earlier O [] (y ∷ ys) s t f g = absurd (g y (inl refl))
-sorted_same earlier O (x ∷ xs) [] s t f g = absurd (f x (inl refl))
-sorted_same {X = X} earlier O (x ∷ xs) (y ∷ ys) s t f g =
-    let e = heads (f x (inl refl)) (g y (inl refl)) in
-    ap₂ (λ z l. z ∷ l) e (sorted_same earlier O xs ys s.1 t.1 (λ z i. ⊎_elim (λ h. absurd (not_self z x (e' h e) (s.0 z i))) (λ j. j) (f z (inr i))) (λ z i. ⊎_elim (λ h. absurd (not_self z y (sym h ∙ e) (t.0 z i))) (λ j. j) (g z (inr i))))
-  where
-    not_self : (z w : X) → z ≡ w → earlier w z ≡ true → ⊥
-    not_self z w h l = false≢true (sym (O.unlike w) ∙ subst (λ u. earlier w u ≡ true) h l)
-
-    e' : {z : X} → y ≡ z → x ≡ y → z ≡ x
-    e' h k = sym h ∙ sym k
-
-    heads : In (y ∷ ys) x → In (x ∷ xs) y → x ≡ y
-    heads (inl h) i = sym h
-    heads (inr j) (inl h) = h
-    heads (inr j) (inr i) = absurd (not_self y y refl (O.onward y x y (t.0 x j) (s.0 y i)))

@@ -2,4 +2,6 @@ pub mod ClassLaws
 pub mod EarliestLaws
 pub mod ImageLaws
 pub mod OntoLists
+pub mod SpreadLaws
+pub mod StabilizerLaws
 pub mod TestLaws

@@ -1,18 +1,6 @@
--- Orders, and the earliest members of classes.
-use Rattle.std.specs.Prelude.{◌≡◌, Bool, true, false, not, List, [], ◌∷◌, map, filter, if◌then◌else◌}
+-- The earliest members of classes.
+use Rattle.std.specs.Prelude.{Bool, not, List, [], ◌∷◌, map, filter, if◌then◌else◌}
 use Rattle.std.specs.List.{list_all}
-use Rattle.df_lists.specs.Membership.{In}
-
--- nothing is before itself, before goes on from one to the next, and of two different things one is before the other
-pub record IsOrder {X : Type 0} (before : X → X → Bool) : Type 0 where
-  pub unlike : (x : X) → before x x ≡ false
-  pub onward : (x y z : X) → before x y ≡ true → before y z ≡ true → before x z ≡ true
-  pub either : (x y : X) → before x y ≡ false → before y x ≡ false → x ≡ y
-
--- each is before all that follow
-abbrev pub IsSorted : {X : Type 0} → (X → X → Bool) → List X → Type 0
-IsSorted before [] = Unit {0}
-IsSorted {X} before (x ∷ xs) = ((y : X) → In xs y → before x y ≡ true) × IsSorted before xs
 
 -- no image is earlier
 abbrev pub is_earliest : {M X : Type 0} → (X → X → Bool) → (M → X → X) → List M → X → Bool

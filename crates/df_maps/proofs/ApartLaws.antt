@@ -11,7 +11,7 @@ use Rattle.df_group.proofs.ExponentLaws.{exponent_least}
 use Rattle.df_group.proofs.MultipleLaws.{are_multiples}
 use Rattle.df_acting.proofs.ImageLaws.{In-set}
 use Rattle.df_maps.specs.FullMaps.{MapGroup, IsMaps, moved, carried, point_count, full_maps, map_number}
-use Rattle.df_maps.proofs.NumberLaws.{length-pairs}
+use Rattle.df_maps.proofs.NumberLaws.{length-pairs, row_below}
 use Rattle.df_maps.proofs.SetLists.{set_apart, In-get_or}
 use Rattle.df_maps.proofs.GroupOfMaps.{moved_low, times_zero}
 
@@ -89,8 +89,8 @@ module _ (M : MapGroup) (is : IsMaps M) where
       let w = length M.shifts in
       let long = length-pairs M.products M.shifts in
       let some : 0 < w = some_of i (omega (arith, hi, long)) in
-      let ri : i / w < length M.products = row i (omega (arith, hi, long)) some in
-      let rj : j / w < length M.products = row j (omega (arith, hj, long)) some in
+      let ri : i / w < length M.products = row_below i w (length M.products) some (omega (arith, hi, long)) in
+      let rj : j / w < length M.products = row_below j w (length M.products) some (omega (arith, hj, long)) in
       let ci : i % w < w = omega (arith, some) in
       let cj : j % w < w = omega (arith, some) in
       let same_shift = shifts_same (get_or M.products (i / w) 0) (get_or M.shifts (i % w) 0) (get_or M.products (j / w) 0) (get_or M.shifts (j % w) 0) (In-get_or M.shifts (i % w) 0 ci) (In-get_or M.shifts (j % w) 0 cj) (agree 0 (omega (arith, pos))) in
@@ -103,9 +103,3 @@ module _ (M : MapGroup) (is : IsMaps M) where
     where
       some_of : (i : ℕ) → i < length M.products * length M.shifts → 0 < length M.shifts
       some_of i h = ⊎_elim (λ l. l) (λ l. absurd (let z : length M.shifts ≡ 0 = omega (arith, l) in let n : length M.products * length M.shifts ≡ 0 = ap (λ k. length M.products * k) z ∙ omega arith in omega (arith, h, n))) (cases_lt 0 (length M.shifts))
-
-      row : (i : ℕ) → i < length M.products * length M.shifts → 0 < length M.shifts → i / length M.shifts < length M.products
-      row i h some = div_row i (length M.shifts) (length M.products) some h
-        where
-          div_row : (i w n : ℕ) → 0 < w → i < n * w → i / w < n
-          div_row i w n some h = ⊎_elim (λ l. l) (λ l. absurd (let a = div-add-mod' i w in let b : n * w ≤ i / w * w = mul-le-mul_right w l in omega (arith, h, a, b))) (cases_lt (i / w) n)

@@ -6,6 +6,7 @@ use Rattle.std.proofs.lemmas.Bool.{cases_lt, cases_order}
 use Rattle.std.specs.List.{range_with_len}
 use Rattle.df_lists.specs.Membership.{In, count}
 use Rattle.df_lists.specs.NumberSets.{has_member}
+use Rattle.df_lists.proofs.MemberLaws.{In-map}
 use Rattle.df_group.specs.Elements.{Group, IsGroup, group_of, order_of, IsElement, residues, number, multiple_of}
 use Rattle.df_group.specs.Subgroups.{exponent_of, is_unit}
 use Rattle.df_group.specs.Multiples.{AreMultiples, Undoes}
@@ -16,7 +17,7 @@ use Rattle.df_group.proofs.UnitLaws.{IsUndone, unit_undone}
 use Rattle.df_group.proofs.MultipleLaws.{are_multiples}
 use Rattle.df_acting.specs.Classes.{IsMapGroup}
 use Rattle.df_acting.proofs.TestLaws.{has_from, has_gives}
-use Rattle.df_acting.proofs.ImageLaws.{In-set, numbers_equal}
+use Rattle.df_acting.proofs.ImageLaws.{In-set, In-points, numbers_equal}
 use Rattle.df_acting.proofs.OntoLists.{onto}
 use Rattle.df_maps.specs.FullMaps.{MapGroup, IsMaps, moved, carried, point_count, full_maps, map_number}
 use Rattle.df_maps.proofs.NumberLaws.{In-pairs, In-pairs_gives, length-pairs, pairs_numbered}
@@ -75,10 +76,10 @@ module _ (M : MapGroup) (is : IsMaps M) where
   abbrev e : ℕ
   e = exponent_of M.factors
 
-  g : IsGroup (group_of M.factors)
+  pub g : IsGroup (group_of M.factors)
   g = is_group M.factors is.shape
 
-  A : AreMultiples (group_of M.factors) (exponent_of M.factors)
+  pub A : AreMultiples (group_of M.factors) (exponent_of M.factors)
   A = are_multiples M.factors is.shape
 
   p : ArePositive M.factors
@@ -90,10 +91,10 @@ module _ (M : MapGroup) (is : IsMaps M) where
   two : 2 ≤ exponent_of M.factors
   two = exponent_low M.factors is.shape
 
-  one_in : In M.products 1
+  pub one_in : In M.products 1
   one_in = has_gives M.products 1 is.one
 
-  zero_in : In M.shifts 0
+  pub zero_in : In M.shifts 0
   zero_in = has_gives M.shifts 0 is.zero
 
   product_in : (m l : ℕ) → In M.products m → In M.products l → In M.products ((m * l) % exponent_of M.factors)
@@ -102,7 +103,7 @@ module _ (M : MapGroup) (is : IsMaps M) where
   sum_in : (h k : ℕ) → In M.shifts h → In M.shifts k → In M.shifts ((group_of M.factors).plus h k)
   sum_in h k i j = has_gives M.shifts ((group_of M.factors).plus h k) (is.sum h k (has_from M.shifts h i) (has_from M.shifts k j))
 
-  small : (m : ℕ) → In M.products m → m % exponent_of M.factors ≡ m
+  pub small : (m : ℕ) → In M.products m → m % exponent_of M.factors ≡ m
   small m i = mod-eq_of_lt (In-set (exponent_of M.factors) M.products m is.products_set i)
 
   undone : (m : ℕ) → In M.products m → IsUndone (exponent_of M.factors) m
@@ -125,7 +126,7 @@ module _ (M : MapGroup) (is : IsMaps M) where
       let n : suc (exponent_of M.factors - 1) ≡ exponent_of M.factors = omega (arith, pos) in
       (k, multiple_in (exponent_of M.factors - 1) h i, sym (A.more (exponent_of M.factors - 1) h) ∙ ap (λ m. (group_of M.factors).times m h) n ∙ sym (A.reduced (exponent_of M.factors) h) ∙ ap (λ m. (group_of M.factors).times m h) (mod_self (exponent_of M.factors)) ∙ A.none h)
 
-  shift_low : (h : ℕ) → In M.shifts h → h < order_of M.factors
+  pub shift_low : (h : ℕ) → In M.shifts h → h < order_of M.factors
   shift_low h i = In-set (order_of M.factors) M.shifts h is.shifts_set i
 
   stays : (f : ℕ × ℕ) (q : ℕ) → q < point_count M → carried M f q < point_count M
@@ -135,17 +136,17 @@ module _ (M : MapGroup) (is : IsMaps M) where
       (λ l. let x = moved_high (group_of M.factors) m h q l in omega (arith, x, k))
       (cases_lt q (order_of M.factors))
 
-  abbrev one_after_another : ℕ × ℕ → ℕ × ℕ → ℕ × ℕ
+  abbrev pub one_after_another : ℕ × ℕ → ℕ × ℕ → ℕ × ℕ
   one_after_another f h = after (group_of M.factors) (exponent_of M.factors) g A f h
 
-  after_in : (f h : ℕ × ℕ) → In (full_maps M) f → In (full_maps M) h → In (full_maps M) (one_after_another f h)
+  pub after_in : (f h : ℕ × ℕ) → In (full_maps M) f → In (full_maps M) h → In (full_maps M) (one_after_another f h)
   after_in (m, h) (l, k) i j =
       let r = In-pairs_gives M.products M.shifts (m, h) i in
       let s = In-pairs_gives M.products M.shifts (l, k) j in
       In-pairs M.products M.shifts ((m * l) % exponent_of M.factors) ((group_of M.factors).plus ((group_of M.factors).times m k) h) (product_in m l r.0 s.0) (sum_in ((group_of M.factors).times m k) h (multiple_in m k s.1) r.1)
 
   -- a map that takes each back
-  back_of : (f : ℕ × ℕ) → In (full_maps M) f → (h : ℕ × ℕ) × In (full_maps M) h × (one_after_another h f ≡ (1, 0)) × (one_after_another f h ≡ (1, 0))
+  pub back_of : (f : ℕ × ℕ) → In (full_maps M) f → (h : ℕ × ℕ) × In (full_maps M) h × (one_after_another h f ≡ (1, 0)) × (one_after_another f h ≡ (1, 0))
   back_of (m, h) i =
       let r = In-pairs_gives M.products M.shifts (m, h) i in
       let l = undoes m r.0 in
@@ -161,7 +162,7 @@ module _ (M : MapGroup) (is : IsMaps M) where
         ap₂ (λ a b. (a, b)) l.2 gone,
       )
 
-  carried_after : (f h : ℕ × ℕ) (q : ℕ) → carried M (one_after_another f h) q ≡ carried M f (carried M h q)
+  pub carried_after : (f h : ℕ × ℕ) (q : ℕ) → carried M (one_after_another f h) q ≡ carried M f (carried M h q)
   carried_after (m, h) (l, k) q = moved_after (group_of M.factors) (exponent_of M.factors) g A m h l k q
 
   pub carried_one : (q : ℕ) → carried M (1, 0) q ≡ q
@@ -175,7 +176,7 @@ module _ (M : MapGroup) (is : IsMaps M) where
     back = λ f i. let b = back_of f i in (b.0, b.1, (λ q k. sym (carried_after b.0 f q) ∙ ap (λ w. carried M w q) b.2 ∙ carried_one q), (λ q k. sym (carried_after f b.0 q) ∙ ap (λ w. carried M w q) b.3 ∙ carried_one q));
   }
 
-  some_shift : 0 < length M.shifts
+  pub some_shift : 0 < length M.shifts
   some_shift = go M.shifts zero_in
     where
       go : (hs : List ℕ) → In hs 0 → 0 < length hs
@@ -184,6 +185,13 @@ module _ (M : MapGroup) (is : IsMaps M) where
 
   pub numbered : full_maps M ≡ map (map_number M) (range_with_len 0 (length (full_maps M)))
   numbered = pairs_numbered M.shifts some_shift M.products ∙ ap (λ n. map (map_number M) (range_with_len 0 n)) (sym (length-pairs M.products M.shifts))
+
+  pub identity_in : In (full_maps M) (1, 0)
+  identity_in = In-pairs M.products M.shifts 1 0 one_in zero_in
+
+  -- each number below the count is that of a map
+  pub number_in : (i : ℕ) → i < length (full_maps M) → In (full_maps M) (map_number M i)
+  number_in i h = subst (λ l. In l (map_number M i)) (sym numbered) (In-map (map_number M) (range_with_len 0 (length (full_maps M))) i (In-points (length (full_maps M)) i h))
 
   no_zero : In M.products 0 → ⊥
   no_zero i = let u = undone 0 i in let z = zero-mul u.0 in let l : 1 % exponent_of M.factors ≡ 1 = mod-eq_of_lt (omega (arith, two)) in let o : 0 % exponent_of M.factors ≡ 0 = mod-eq_of_lt pos in let w = u.1 in absurd (let x : 0 ≡ 1 = sym o ∙ ap (λ n. n % exponent_of M.factors) (sym z) ∙ w ∙ l in omega (arith, x))

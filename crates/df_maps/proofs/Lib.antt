@@ -1,8 +1,14 @@
 pub mod ApartLaws
+pub mod FilterSteps
 pub mod GroupOfMaps
+pub mod ImageSteps
 pub mod KeptLaws
+pub mod LoopSteps
 pub mod MadeLaws
+pub mod MapsFacts
+pub mod MarkSteps
 pub mod NumberLaws
 pub mod ProductLaws
 pub mod SetLists
 pub mod SubgroupSums
+pub mod TurnLaws

@@ -1,5 +1,6 @@
 -- The pairs of two lists, by their numbers.
-use Rattle.std.proofs.Common.{◌≡◌, ℕ, suc, zero, ◌+◌, ◌*◌, ◌/◌, ◌%◌, ◌<◌, ◌≤◌, ◌++◌, map, List, [], ◌∷◌, length, get_or, refl, sym, ap, ap₂, ◌∙◌, subst, inl, inr, arith, ⊎_elim, length-append, mod-eq_of_lt, suc-mul}
+use Rattle.std.proofs.Common.{◌≡◌, ℕ, suc, zero, ◌+◌, ◌*◌, ◌/◌, ◌%◌, ◌<◌, ◌≤◌, ◌++◌, map, List, [], ◌∷◌, length, get_or, refl, sym, ap, ap₂, ◌∙◌, subst, inl, inr, arith, ⊎_elim, length-append, mod-eq_of_lt, suc-mul, mul-le-mul_right}
+use Rattle.std.proofs.lemmas.Bool.{cases_lt}
 use Rattle.std.proofs.Math.Nat.{add-mod_right, div-add-mod'}
 use Rattle.std.proofs.lemmas.Nat.{div-mul-add}
 use Rattle.std.proofs.lemmas.List.{length-map, map-append}
@@ -46,6 +47,10 @@ range_split a (suc m) n =
 by_places : {X : Type 0} (g : ℕ → X) (hs : List ℕ) → map g hs ≡ map (λ i. g (get_or hs i 0)) (range_with_len 0 (length hs))
 by_places g [] = refl
 by_places g (h ∷ hs) = ap (λ l. g h ∷ l) (by_places g hs ∙ sym (range_later (λ i. g (get_or (h ∷ hs) i 0)) 0 1 (length hs) ∙ map_agree (λ i. g (get_or (h ∷ hs) (i + 1) 0)) (λ i. g (get_or hs i 0)) (range_with_len 0 (length hs)) (λ i j. let e : i + 1 ≡ suc i = omega arith in ap (λ k. g (get_or (h ∷ hs) k 0)) e)))
+
+-- the row of a place
+pub row_below : (i w n : ℕ) → 0 < w → i < n * w → i / w < n
+row_below i w n some h = ⊎_elim (λ l. l) (λ l. absurd (let a = div-add-mod' i w in let b : n * w ≤ i / w * w = mul-le-mul_right w l in omega (arith, h, a, b))) (cases_lt (i / w) n)
 
 -- number i of the pairs
 abbrev pub pair_number : List ℕ → List ℕ → ℕ → ℕ × ℕ

@@ -71,17 +71,14 @@ set_less v a b p s t h i out =
     omega (arith, ap length s, ap length t, count_less (has_member a) (has_member b) (range_with_len 0 v) p (λ q j e. has_from b q (h q (has_gives a q e))) (In-points v p below) out (has_from b p i))
 
 module _ (e : ℕ) (stated : List ℕ) (pos : 0 < e) where
-  within : ℕ → List ℕ
-  within n = products_within e stated n
-
   abbrev more : ℕ → List ℕ
   more n = flat_map (λ m. map (λ r. (m * r) % e) (products_within e stated n)) stated
 
-  within_set : (n : ℕ) → IsSet e (products_within e stated n)
+  pub within_set : (n : ℕ) → IsSet e (products_within e stated n)
   within_set zero = filter_is_set (has_member (1 % e ∷ [])) e
   within_set (suc n) = filter_is_set (has_member (1 % e ∷ more n)) e
 
-  one_in : (n : ℕ) → In (products_within e stated n) (1 % e)
+  pub one_in : (n : ℕ) → In (products_within e stated n) (1 % e)
   one_in zero = In-set_of e (1 % e ∷ []) (1 % e) (mod-lt 1 pos) (inl refl)
   one_in (suc n) = In-set_of e (1 % e ∷ more n) (1 % e) (mod-lt 1 pos) (inl refl)
 
@@ -89,7 +86,7 @@ module _ (e : ℕ) (stated : List ℕ) (pos : 0 < e) where
   step_in n m r i j = In-set_of e (1 % e ∷ more n) ((m * r) % e) (mod-lt (m * r) pos) (inr (In-flat_map (λ m. map (λ r. (m * r) % e) (products_within e stated n)) stated m ((m * r) % e) i (In-map (λ r. (m * r) % e) (products_within e stated n) r j)))
 
   -- 1, or a multiplier times a product of fewer
-  step_cases : (n r : ℕ) → In (products_within e stated (suc n)) r → (1 % e ≡ r) ⊎ ((m : ℕ) × (s : ℕ) × In stated m × In (products_within e stated n) s × ((m * s) % e ≡ r))
+  pub step_cases : (n r : ℕ) → In (products_within e stated (suc n)) r → (1 % e ≡ r) ⊎ ((m : ℕ) × (s : ℕ) × In stated m × In (products_within e stated n) s × ((m * s) % e ≡ r))
   step_cases n r i = go (In-set_of_gives e (1 % e ∷ more n) r i).1
     where
       go : In (1 % e ∷ more n) r → (1 % e ≡ r) ⊎ ((m : ℕ) × (s : ℕ) × In stated m × In (products_within e stated n) s × ((m * s) % e ≡ r))
@@ -164,3 +161,24 @@ module _ (e : ℕ) (stated : List ℕ) (pos : 0 < e) where
   pub products_are : AreProducts e stated (products e stated)
   unfolding products
   products_are = record { set = within_set e; inside = inside e; all = all_in }
+
+  -- products times a multiplier are products
+  pub products_step : (m r : ℕ) → In stated m → In (products e stated) r → In (products e stated) ((m * r) % e)
+  products_step m r i j =
+      let P = products_are in
+      let ms = P.inside r j in
+      subst (In (products e stated)) (sym (mul-mod_second m (product_of ms.0) e) ∙ ap (λ k. (m * k) % e) ms.2) (P.all (m ∷ ms.0) (i, ms.1))
+
+  pub products_one : In (products e stated) (1 % e)
+  products_one = products_are.all [] tt
+
+  pub products_first : (r : ℕ) → In (products_within e stated 0) r → 1 % e ≡ r
+  products_first r i = go (In-set_of_gives e (1 % e ∷ []) r i).1
+    where
+      go : In (1 % e ∷ []) r → 1 % e ≡ r
+      go (inl h) = h
+      go (inr j) = absurd j
+
+  pub products_end : (r : ℕ) → In (products e stated) r → In (products_within e stated e) r
+  unfolding products
+  products_end r i = i

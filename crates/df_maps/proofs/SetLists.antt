@@ -6,7 +6,7 @@ use Rattle.std.specs.List.{range_with_len}
 use Rattle.df_lists.specs.Membership.{In, count}
 use Rattle.df_lists.specs.NumberSets.{has_member, IsSet}
 use Rattle.df_lists.proofs.MemberLaws.{In-filter_gives, In-range_gives}
-use Rattle.df_acting.specs.Earliest.{IsSorted}
+use Rattle.df_subsets.specs.Orders.{IsSorted}
 use Rattle.df_acting.proofs.TestLaws.{same_tests, filter_agree, has_from}
 use Rattle.df_acting.proofs.ImageLaws.{range_once, In-set}
 

@@ -1,14 +1,15 @@
 -- The laws, each the contract of a function.
-use Rattle.std.specs.Prelude.{◌≡◌, ◌<◌, ◌≤◌, ℕ, ◌+◌, true, List, map, length}
+use Rattle.std.specs.Prelude.{◌≡◌, ◌<◌, ◌≤◌, ℕ, ◌+◌, ◌*◌, true, List, map, length}
 use Rattle.std.specs.List.{range_with_len}
-use Rattle.df_lists.specs.Membership.{In}
+use Rattle.df_lists.specs.Membership.{In, count}
 use Rattle.df_lists.specs.NumberSets.{IsSet}
 use Rattle.df_group.specs.Elements.{group_of, order_of, IsShape}
 use Rattle.df_group.specs.Subgroups.{exponent_of, is_unit, IsSubgroup}
-use Rattle.df_acting.specs.Classes.{IsMapGroup}
+use Rattle.df_subsets.specs.Subsets.{subsets, same_list}
+use Rattle.df_acting.specs.Classes.{IsMapGroup, in_one_class}
 use Rattle.df_acting.specs.Images.{IsInvariant}
 use Rattle.df_maps.specs.Products.{products, AreProducts}
-use Rattle.df_maps.specs.FullMaps.{MapGroup, IsMaps, maps_of, point_count, full_maps, map_number, carried, shifted, multiplied}
+use Rattle.df_maps.specs.FullMaps.{MapGroup, IsMaps, maps_of, point_count, full_maps, map_number, carried, image, shifted, multiplied}
 
 -- the residues of products are those of all lists
 abbrev pub ProductsAreAll : Type 0
@@ -18,12 +19,13 @@ ProductsAreAll = (e : ℕ) (stated : List ℕ) → 0 < e → AreProducts e state
 abbrev pub MapsAreMade : Type 0
 MapsAreMade = (factors : List ℕ) (fixed : ℕ) (shifts stated : List ℕ) → IsShape factors → order_of factors + fixed ≤ 128 → IsSubgroup factors shifts → ((m : ℕ) → In stated m → is_unit (exponent_of factors) m ≡ true) → IsMaps (maps_of factors fixed shifts stated)
 
--- the maps are closed under composition and inverse, map 0 moves nothing, they are numbered in their order, and no two of them agree on all points
+-- the maps are closed under composition and inverse, map 0 moves nothing, they are numbered in their order, the maps that fix a block times its different images are all the maps, and no two maps agree on all points
 pub record AreGroup (M : MapGroup) : Type 0 where
   pub group : IsMapGroup (carried M) (λ p. p < point_count M) (full_maps M)
   pub numbered : full_maps M ≡ map (map_number M) (range_with_len 0 (length (full_maps M)))
   pub identity : map_number M 0 ≡ (1, 0)
   pub fixes : (p : ℕ) → p < point_count M → carried M (1, 0) p ≡ p
+  pub orbits : (b : List ℕ) → IsSet (point_count M) b → length (full_maps M) ≡ count (λ g. same_list (image M g b) b) (full_maps M) * count (in_one_class same_list (image M) (full_maps M) b) (subsets (point_count M) (length b))
   pub apart : (i j : ℕ) → i < length (full_maps M) → j < length (full_maps M) → ((p : ℕ) → p < point_count M → carried M (map_number M i) p ≡ carried M (map_number M j) p) → i ≡ j
 
 abbrev pub MapsAreGroups : Type 0

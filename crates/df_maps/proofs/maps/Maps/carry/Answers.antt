@@ -1,0 +1,1 @@
+use Rattle.df_maps.proofs.maps.Maps.carry.Goals as goal
