@@ -1,0 +1,3 @@
+pub mod StoredColumns
+pub mod SortedCells
+pub mod DivisorSteps
