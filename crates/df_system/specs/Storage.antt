@@ -1,5 +1,5 @@
 -- A system as it is stored: its targets, where each column starts, and the cells of all columns, one after another.
-use Rattle.std.specs.Prelude.{◌≡◌, ◌≢◌, ℕ, ◌+◌, ◌-◌, ◌*◌, ◌<◌, ◌≤◌, List, [], ◌∷◌, length, slice_index, slice_index_or, slice_range, All}
+use Rattle.std.specs.Prelude.{◌≡◌, ◌≢◌, ℕ, ◌+◌, ◌-◌, ◌*◌, ◌<◌, ◌≤◌, List, [], ◌∷◌, length, nat_lt, if◌then◌else◌, slice_index, slice_index_or, slice_range, All}
 use Rattle.std.specs.List.{AllByRecursion}
 use Rattle.std.specs.List.Sorted.{IsNonDecreasing}
 use Rattle.df_walk.specs.declared.Cell.{Cell}
@@ -45,6 +45,22 @@ pub record IsFirstEmpty (columns : List (List Cell)) (column : ℕ) : Type 0 whe
 abbrev pub IsZeroColumn : List (List Cell) → SystemError → Type 0
 IsZeroColumn columns (ZeroColumn column) = IsFirstEmpty columns column
 IsZeroColumn columns OutOfMemory = Unit {0}
+
+-- the positive entries of a column, from the row of its first entry on
+abbrev pub positive_cells : ℕ → List ℕ → List Cell
+positive_cells row [] = []
+positive_cells row (e ∷ es) = if nat_lt 0 e then record { row = row; value = e } ∷ positive_cells (row + 1) es else positive_cells (row + 1) es
+
+-- the entries of a column, of so many rows
+abbrev pub column_entries : ℕ → List ℕ → ℕ → List ℕ
+column_entries rows all column = slice_range all (column * rows) (column * rows + rows)
+
+-- the positive entries of the first columns, gathered
+pub record AreGathered (rows : ℕ) (all : List ℕ) (columns : ℕ) (starts : List ℕ) (cells : List Cell) : Type 0 where
+  pub count : length starts ≡ columns + 1
+  pub starts_are : AreStarts starts (length cells)
+  pub few : length cells ≤ columns * rows
+  pub each : (k : ℕ) → k < columns → slice_index_or (columns_of starts cells) k [] ≡ positive_cells 0 (column_entries rows all k)
 
 -- entries that stand column after column, each column's by its rows
 pub record IsDense (targets all : List ℕ) (s : System) : Type 0 where

@@ -1,24 +1,8 @@
-ghost use Rattle.std.specs.Prelude.{
-  ◌≡◌,
-  ◌+◌,
-  ◌-◌,
-  ◌*◌,
-  ◌%◌,
-  ◌<◌,
-  ◌≤◌,
-  [],
-  ◌∷◌,
-  length, ℕ,
-  drop,
-  slice_index,
-  IfOk,
-  IfErr,
-  vec_len,
-};
+ghost use Rattle.std.specs.Prelude.{◌≡◌, ◌≢◌, ℕ, ◌+◌, ◌-◌, ◌*◌, ◌/◌, ◌%◌, ◌<◌, ◌≤◌, [], ◌∷◌, ◌++◌, length, drop, slice_index, All, IfOk, IfErr, IfSome, IsNone, vec_len};
 ghost use Rattle.std.specs.Int.{IsGcd};
 ghost use Rattle.df_walk.specs.Systems.{IsSystem, AreCells, entry_of, entries, entry, target, cells};
 ghost use Rattle.df_walk.specs.Assignments.{common_divisor};
-ghost use Rattle.df_system.specs.Storage.{AreStarts, columns_of, IsDense, IsZeroColumn, IsZeroAmong};
+ghost use Rattle.df_system.specs.Storage.{AreStarts, AreGathered, positive_cells, columns_of, stored, IsDense, IsZeroColumn, IsZeroAmong};
 
 use df_steps::Steps;
 use df_walk::Cell;
@@ -89,7 +73,132 @@ fn greatest_common(mut a: u32, mut b: u32) -> u32
     a
 }
 
+/// Appends a column's positive entries, each with its row.
+fn push_positive(cells: &mut Vec<Cell>, column: &[u32]) -> Result<(), AllocError>
+    requires { length column.now < 4294967296 }
+    ensures { IfOk result (λ _. cells.new.items ≡ cells.old.items ++ positive_cells 0 column.now) }
+{
+    for (row, value) in column.iter().enumerate() {
+        if *value > 0 {
+            cells.push(Cell {
+                row: row as u32,
+                value: *value,
+            })?;
+        }
+    }
+    Ok(())
+}
+
+/// The positive entries of all columns, and where each column's start.
+#[derive(Drop)]
+struct Gathered {
+    starts: Vec<u32>,
+    cells: Vec<Cell>,
+}
+
+/// Gathers the positive entries of columns of so many rows, which stand one after another.
+fn gather(alloc: Global, rows: usize, entries: &[u32]) -> Result<Gathered, AllocError>
+    requires some { 0 < rows }
+    requires few_rows { rows < 4294967296 }
+    requires few { length entries.now ≤ 16777216 }
+    ensures { IfOk result (λ g. AreGathered rows entries.now (length entries.now / rows) g.starts.items g.cells.items) }
+{
+    let columns = entries.len() / rows;
+    let positive = entries.iter().filter(|entry| **entry > 0).count();
+    let mut starts = Vec::with_capacity(alloc, columns + 1)?;
+    let mut cells = Vec::with_capacity(alloc, positive)?;
+    starts.push(0)?;
+    for column in 0..columns {
+        let start = column * rows;
+        push_positive(&mut cells, &entries[start..start + rows])?;
+        starts.push(cells.len() as u32)?;
+    }
+    Ok(Gathered { starts, cells })
+}
+
+/// The first column without a cell.
+fn first_empty(starts: &[u32]) -> Option<u32>
+    requires some { 0 < length starts.now }
+    requires few { length starts.now ≤ 16777217 }
+    ensures none { IsNone result → (k : ℕ) → k + 1 < length starts.now → slice_index starts.now k ≢ slice_index starts.now (k + 1) }
+    ensures found { IfSome result (λ c. (c + 1 < length starts.now) × (slice_index starts.now c ≡ slice_index starts.now (c + 1)) × ((k : ℕ) → k < c → slice_index starts.now k ≢ slice_index starts.now (k + 1))) }
+{
+    for column in 0..starts.len() - 1 {
+        if starts[column] == starts[column + 1] {
+            return Some(column as u32);
+        }
+    }
+    None
+}
+
 impl System {
+    /// A system of these parts, if each column has a cell.
+    fn from_parts(
+        targets: Vec<u32>,
+        starts: Vec<u32>,
+        cells: Vec<Cell>,
+    ) -> Result<System, SystemError>
+        requires starts { AreStarts starts.items (length cells.items) }
+        requires columns { All (AreCells (length targets.items)) (columns_of starts.items cells.items) }
+        requires few_rows { vec_len targets < 4294967296 }
+        requires few_columns { vec_len starts ≤ 16777217 }
+        requires few_cells { vec_len cells ≤ 16777216 }
+        ensures ok { IfOk result (λ s. s ≡ stored targets.items starts.items cells.items) }
+        ensures system { IfOk result IsSystem }
+        ensures zero_column { IfErr result (IsZeroColumn (columns_of starts.items cells.items)) }
+    {
+        if let Some(column) = first_empty(&starts) {
+            return Err(SystemError::ZeroColumn(column));
+        }
+        Ok(System {
+            targets,
+            starts,
+            cells,
+        })
+    }
+
+    /// A system of these targets, with the entries column after column, each column's by its rows.
+    ///
+    /// The conditions: there is a row, there are fewer than 4,294,967,296, and the number of entries is a multiple of theirs and at most 16,777,216.
+    /// `ZeroColumn` comes exactly where a column has no positive entry, with the first such column, but where memory is wanted first.
+    pub fn new(alloc: Global, targets: Vec<u32>, entries: Vec<u32>) -> Result<System, SystemError>
+        requires row { 0 < vec_len targets }
+        requires few_rows { vec_len targets < 4294967296 }
+        requires whole_columns { vec_len entries % vec_len targets ≡ 0 }
+        requires few { vec_len entries ≤ 16777216 }
+        ensures ok { IfOk result (IsDense targets.items entries.items) }
+        ensures zero_column { IfErr result (IsZeroAmong (length targets.items) entries.items) }
+    {
+        let Ok(gathered) = gather(alloc, targets.len(), &entries) else {
+            return Err(SystemError::OutOfMemory);
+        };
+        System::from_parts(targets, gathered.starts, gathered.cells)
+    }
+
+    /// A system of these targets and cells: column k has the cells from place `starts[k]` up to `starts[k + 1]`.
+    ///
+    /// The conditions: `starts` begins with 0, doesn't fall, ends with the number of cells, and has one number more than there are columns.
+    /// In each column the rows increase and are in range, and the values are positive.
+    /// There are at most 16,777,216 cells and 65,536 columns, and fewer than 4,294,967,296 rows; there may be none.
+    /// `ZeroColumn` comes exactly where a column has no cell, with the first such column.
+    pub fn sparse(
+        _alloc: Global,
+        targets: Vec<u32>,
+        starts: Vec<u32>,
+        cells: Vec<Cell>,
+    ) -> Result<System, SystemError>
+        requires starts { AreStarts starts.items (length cells.items) }
+        requires columns { All (AreCells (length targets.items)) (columns_of starts.items cells.items) }
+        requires few_rows { vec_len targets < 4294967296 }
+        requires few_columns { vec_len starts ≤ 65537 }
+        requires few_cells { vec_len cells ≤ 16777216 }
+        ensures ok { IfOk result (λ s. s ≡ stored targets.items starts.items cells.items) }
+        ensures system { IfOk result IsSystem }
+        ensures zero_column { IfErr result (IsZeroColumn (columns_of starts.items cells.items)) }
+    {
+        System::from_parts(targets, starts, cells)
+    }
+
     /// The number of rows.
     pub fn rows(&self) -> u32
         ensures value { result ≡ length self.now.targets }
