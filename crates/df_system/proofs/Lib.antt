@@ -5,3 +5,5 @@ pub mod PositiveCells
 pub mod GatheredColumns
 pub mod SystemParts
 pub mod DenseSystems
+pub mod CountedTallies
+pub mod ColumnChanges

@@ -4,6 +4,7 @@
 #![tactic(auto)]
 
 pub mod system;
+mod tallies;
 
 pub use df_walk::{Cell, Rules};
 pub use system::{System, SystemError};
