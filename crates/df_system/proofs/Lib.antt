@@ -1,0 +1,9 @@
+pub mod StoredColumns
+pub mod SortedCells
+pub mod DivisorSteps
+pub mod PositiveCells
+pub mod GatheredColumns
+pub mod SystemParts
+pub mod DenseSystems
+pub mod CountedTallies
+pub mod ColumnChanges
