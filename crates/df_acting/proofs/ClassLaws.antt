@@ -3,8 +3,9 @@ use Rattle.std.proofs.Common.{◌≡◌, ℕ, ◌*◌, Bool, true, false, ◌&&�
 use Rattle.df_lists.specs.Membership.{In, count}
 use Rattle.df_lists.specs.Totals.{one}
 use Rattle.df_lists.proofs.ListTotals.{list_total, list_total_agree, count_total, count_agree, list_total_times, list_total_swap}
-use Rattle.df_acting.specs.Classes.{IsEquality, IsMapGroup, IsSpread, in_one_class, entry, held}
-use Rattle.df_acting.proofs.TestLaws.{same_tests, any_from, any_gives}
+use Rattle.df_lists.specs.Orders.{IsEquality}
+use Rattle.df_acting.specs.Classes.{IsMapGroup, IsSpread, in_one_class, entry, held}
+use Rattle.df_lists.proofs.TestLaws.{same_tests, any_from, any_gives}
 
 -- the test by which a sum picks one member
 pub pick : (b : Bool) (m n : ℕ) → (b ≡ true → m ≡ n) → one b * m ≡ one b * n

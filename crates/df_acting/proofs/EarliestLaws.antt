@@ -4,10 +4,11 @@ use Rattle.std.proofs.lemmas.Bool.{both_ways, not-true, not_from_false, false_fr
 use Rattle.std.specs.List.{list_any}
 use Rattle.df_lists.specs.Membership.{In}
 use Rattle.df_lists.proofs.MemberLaws.{In-append_left, In-append_right, In-append_cases, In-map, In-map_gives}
-use Rattle.df_acting.specs.Classes.{IsEquality, IsMapGroup, IsSpread, in_one_class}
-use Rattle.df_subsets.specs.Orders.{IsOrder, IsSorted}
+use Rattle.df_lists.specs.Orders.{IsEquality}
+use Rattle.df_acting.specs.Classes.{IsMapGroup, IsSpread, in_one_class}
+use Rattle.df_lists.specs.Orders.{IsOrder, IsSorted}
 use Rattle.df_acting.specs.Earliest.{is_earliest, earliest, earliest_image}
-use Rattle.df_acting.proofs.TestLaws.{same_tests, any_from, any_gives, all_from, all_gives}
+use Rattle.df_lists.proofs.TestLaws.{same_tests, any_from, any_gives, all_from, all_gives}
 use Rattle.df_acting.proofs.ClassLaws.{class_from, class_gives, class_same, class_comm}
 
 sorted_across : {X : Type 0} (before : X → X → Bool) (xs ys : List X) (x y : X) → IsSorted before (xs ++ ys) → In xs x → In ys y → before x y ≡ true

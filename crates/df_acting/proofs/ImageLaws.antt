@@ -7,9 +7,10 @@ use Rattle.df_lists.specs.NumberSets.{has_member, set_of, IsSet}
 use Rattle.df_lists.proofs.MemberLaws.{In-map, In-map_gives, In-filter, In-filter_gives, In-range, In-range_gives, count_none}
 use Rattle.df_lists.proofs.ListTotals.{count_agree}
 use Rattle.df_lists.proofs.CountLaws.{has_filter}
-use Rattle.df_acting.specs.Classes.{IsEquality, IsMapGroup, IsSpread}
+use Rattle.df_lists.specs.Orders.{IsEquality}
+use Rattle.df_acting.specs.Classes.{IsMapGroup, IsSpread}
 use Rattle.df_acting.specs.Images.{image, holds}
-use Rattle.df_acting.proofs.TestLaws.{same_tests, all_from, all_gives, filter_agree, map_agree, map_fixed, has_from, has_gives}
+use Rattle.df_lists.proofs.TestLaws.{same_tests, all_from, all_gives, filter_agree, map_agree, map_fixed, has_from, has_gives}
 use Rattle.df_acting.proofs.ClassLaws.{permutes}
 
 pub In-points : (v p : ℕ) → p < v → In (range_with_len 0 v) p

@@ -4,4 +4,3 @@ pub mod ImageLaws
 pub mod OntoLists
 pub mod SpreadLaws
 pub mod StabilizerLaws
-pub mod TestLaws

@@ -5,8 +5,8 @@ use Rattle.df_lists.specs.Membership.{In, count}
 use Rattle.df_lists.specs.Totals.{one}
 use Rattle.df_lists.proofs.ListTotals.{list_total, list_total_agree, count_total, count_agree, list_total_swap}
 use Rattle.df_lists.proofs.MemberLaws.{count_gives}
-use Rattle.df_acting.specs.Classes.{IsEquality}
-use Rattle.df_acting.proofs.TestLaws.{same_tests}
+use Rattle.df_lists.specs.Orders.{IsEquality}
+use Rattle.df_lists.proofs.TestLaws.{same_tests}
 
 total_ones : {X : Type 0} (xs : List X) → list_total (λ x. 1) xs ≡ length xs
 total_ones [] = refl

@@ -8,7 +8,8 @@ use Rattle.df_subsets.proofs.BlockLaws.{block_is_set, set_is_block}
 use Rattle.df_subsets.proofs.SubsetLists.{same_list-gives, same_list-self, subsets_inside, subsets_once, subsets_have}
 use Rattle.df_subsets.proofs.SizedLists.{candidates_inside, candidates_once, candidates_have}
 use Rattle.std.proofs.Common.{eqb}
-use Rattle.df_acting.specs.Classes.{IsEquality, IsMapGroup, IsSpread}
+use Rattle.df_lists.specs.Orders.{IsEquality}
+use Rattle.df_acting.specs.Classes.{IsMapGroup, IsSpread}
 use Rattle.df_acting.specs.Images.{image}
 use Rattle.df_acting.proofs.ImageLaws.{image_is_set, length-image}
 

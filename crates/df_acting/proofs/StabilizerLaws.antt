@@ -6,8 +6,9 @@ use Rattle.df_lists.specs.Membership.{In, count}
 use Rattle.df_lists.specs.Totals.{one}
 use Rattle.df_lists.proofs.ListTotals.{list_total, list_total_agree, count_total, count_agree, list_total_times, list_total_swap}
 use Rattle.df_lists.proofs.MemberLaws.{count_none}
-use Rattle.df_acting.specs.Classes.{IsEquality, IsMapGroup, IsSpread, in_one_class}
-use Rattle.df_acting.proofs.TestLaws.{same_tests, any_from}
+use Rattle.df_lists.specs.Orders.{IsEquality}
+use Rattle.df_acting.specs.Classes.{IsMapGroup, IsSpread, in_one_class}
+use Rattle.df_lists.proofs.TestLaws.{same_tests, any_from}
 use Rattle.df_acting.proofs.ClassLaws.{class_gives}
 
 length_total : {X : Type 0} (xs : List X) → length xs ≡ list_total (λ x. 1) xs

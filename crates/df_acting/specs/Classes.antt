@@ -3,11 +3,6 @@ use Rattle.std.specs.Prelude.{◌≡◌, ℕ, Bool, true, ◌&&◌, List}
 use Rattle.std.specs.List.{list_any}
 use Rattle.df_lists.specs.Membership.{In, count}
 
--- the test is true of equal things alone
-pub record IsEquality {X : Type 0} (eq : X → X → Bool) : Type 0 where
-  pub same : (x y : X) → eq x y ≡ true → x ≡ y
-  pub self : (x : X) → eq x x ≡ true
-
 -- on the things that D allows: the maps lead to such things, one of them moves nothing, and there is a map for two in turn and one that takes each back
 pub record IsMapGroup {M X : Type 0} (act : M → X → X) (D : X → Type 0) (maps : List M) : Type 0 where
   pub stays : (g : M) → In maps g → (x : X) → D x → D (act g x)

@@ -2,8 +2,9 @@
 use Rattle.std.specs.Prelude.{◌≡◌, ◌<◌, ℕ, ◌*◌, Bool, true, List, length}
 use Rattle.df_lists.specs.Membership.{In, count}
 use Rattle.df_lists.specs.NumberSets.{IsSet}
-use Rattle.df_acting.specs.Classes.{IsEquality, IsMapGroup, IsSpread, in_one_class, entry, held}
-use Rattle.df_subsets.specs.Orders.{IsOrder}
+use Rattle.df_lists.specs.Orders.{IsEquality}
+use Rattle.df_acting.specs.Classes.{IsMapGroup, IsSpread, in_one_class, entry, held}
+use Rattle.df_lists.specs.Orders.{IsOrder}
 use Rattle.df_acting.specs.Earliest.{is_earliest, earliest_image}
 use Rattle.df_acting.specs.Images.{image, holds}
 

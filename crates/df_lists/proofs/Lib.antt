@@ -3,4 +3,5 @@ pub mod LeastLaws
 pub mod ListTotals
 pub mod MemberLaws
 pub mod OntoMaps
+pub mod TestLaws
 pub mod TotalLaws

@@ -2,4 +2,5 @@ pub mod BitLaws
 pub mod LeastMembers
 pub mod Membership
 pub mod NumberSets
+pub mod Orders
 pub mod Totals

@@ -16,7 +16,7 @@ use Rattle.df_group.proofs.ExponentLaws.{exponent_some, exponent_low, exponent_l
 use Rattle.df_group.proofs.UnitLaws.{IsUndone, unit_undone}
 use Rattle.df_group.proofs.MultipleLaws.{are_multiples}
 use Rattle.df_acting.specs.Classes.{IsMapGroup}
-use Rattle.df_acting.proofs.TestLaws.{has_from, has_gives}
+use Rattle.df_lists.proofs.TestLaws.{has_from, has_gives}
 use Rattle.df_acting.proofs.ImageLaws.{In-set, In-points, numbers_equal}
 use Rattle.df_acting.proofs.OntoLists.{onto}
 use Rattle.df_maps.specs.FullMaps.{MapGroup, IsMaps, moved, carried, point_count, full_maps, map_number}

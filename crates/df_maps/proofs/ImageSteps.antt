@@ -2,7 +2,7 @@
 use Rattle.std.proofs.Common.{◌≡◌, ℕ, ◌+◌, ◌*◌, ◌<◌, ◌≤◌, Bool, true, false, ◌||◌, List, [], ◌∷◌, map, length, refl, sym, ap, ◌∙◌, subst, arith, eqb}
 use Rattle.std.specs.List.{list_any, range_with_len}
 use Rattle.df_lists.specs.NumberSets.{has_member, IsSet}
-use Rattle.df_acting.proofs.TestLaws.{filter_agree}
+use Rattle.df_lists.proofs.TestLaws.{filter_agree}
 use Rattle.df_acting.proofs.ImageLaws.{image_by}
 
 any_map : {X Y : Type 0} (t : Y → Bool) (f : X → Y) (xs : List X) → list_any t (map f xs) ≡ list_any (λ x. t (f x)) xs

@@ -7,7 +7,7 @@ use Rattle.df_lists.specs.Membership.{In, count}
 use Rattle.df_lists.specs.BitLaws.{range_more}
 use Rattle.df_lists.proofs.MemberLaws.{count-append, count-map}
 use Rattle.df_acting.specs.Earliest.{earliest}
-use Rattle.df_acting.proofs.TestLaws.{all_gives}
+use Rattle.df_lists.proofs.TestLaws.{all_gives}
 use Rattle.df_acting.proofs.ImageLaws.{In-points}
 
 all-append : {X : Type 0} (t : X → Bool) (xs ys : List X) → list_all t (xs ++ ys) ≡ (list_all t xs && list_all t ys)

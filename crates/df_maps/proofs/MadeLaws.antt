@@ -9,7 +9,7 @@ use Rattle.df_group.specs.Multiples.{AreUnits}
 use Rattle.df_group.proofs.ElementLaws.{positive_shape}
 use Rattle.df_group.proofs.ExponentLaws.{exponent_some, exponent_low}
 use Rattle.df_group.proofs.MultipleLaws.{are_units}
-use Rattle.df_acting.proofs.TestLaws.{has_from, has_gives}
+use Rattle.df_lists.proofs.TestLaws.{has_from, has_gives}
 use Rattle.df_maps.specs.Products.{product_of, AllIn, products, AreProducts}
 use Rattle.df_maps.specs.FullMaps.{IsMaps, maps_of}
 use Rattle.df_maps.proofs.ProductLaws.{products_are}

@@ -7,7 +7,7 @@ use Rattle.std.proofs.lemmas.List.{length-map, map-append}
 use Rattle.std.specs.List.{range_with_len, flat_map}
 use Rattle.df_lists.specs.Membership.{In}
 use Rattle.df_lists.proofs.MemberLaws.{In-append_left, In-append_right, In-append_cases, In-map, In-map_gives, In-range_gives}
-use Rattle.df_acting.proofs.TestLaws.{map_agree}
+use Rattle.df_lists.proofs.TestLaws.{map_agree}
 
 abbrev pub pairs : List ℕ → List ℕ → List (ℕ × ℕ)
 pairs ms hs = flat_map (λ m. map (λ h. (m, h)) hs) ms

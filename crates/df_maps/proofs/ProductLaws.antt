@@ -9,7 +9,7 @@ use Rattle.df_lists.specs.NumberSets.{has_member, set_of, IsSet}
 use Rattle.df_lists.specs.Totals.{one}
 use Rattle.df_lists.proofs.MemberLaws.{In-append_left, In-append_right, In-append_cases, In-map, In-map_gives, In-filter, In-filter_gives, count_some}
 use Rattle.df_lists.proofs.ListTotals.{list_total, count_total}
-use Rattle.df_acting.proofs.TestLaws.{any_from, any_gives, has_from, has_gives}
+use Rattle.df_lists.proofs.TestLaws.{any_from, any_gives, has_from, has_gives}
 use Rattle.df_acting.proofs.ImageLaws.{In-points, In-points_gives, filter_is_set}
 use Rattle.df_maps.specs.Products.{product_of, AllIn, products_within, products, AreProducts}
 use Rattle.std.proofs.lemmas.Nat.{mul-mod_second}

@@ -6,8 +6,8 @@ use Rattle.std.specs.List.{range_with_len}
 use Rattle.df_lists.specs.Membership.{In, count}
 use Rattle.df_lists.specs.NumberSets.{has_member, IsSet}
 use Rattle.df_lists.proofs.MemberLaws.{In-filter_gives, In-range_gives}
-use Rattle.df_subsets.specs.Orders.{IsSorted}
-use Rattle.df_acting.proofs.TestLaws.{same_tests, filter_agree, has_from}
+use Rattle.df_lists.specs.Orders.{IsSorted}
+use Rattle.df_lists.proofs.TestLaws.{same_tests, filter_agree, has_from}
 use Rattle.df_acting.proofs.ImageLaws.{range_once, In-set}
 
 filter-filter : {X : Type 0} (q p : X → Bool) (xs : List X) → filter q (filter p xs) ≡ filter (λ x. p x && q x) xs

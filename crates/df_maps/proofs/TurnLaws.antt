@@ -10,7 +10,8 @@ use Rattle.df_group.specs.Elements.{group_of}
 use Rattle.df_group.specs.Subgroups.{exponent_of}
 use Rattle.df_group.proofs.ElementLaws.{is_group}
 use Rattle.df_group.proofs.MultipleLaws.{are_multiples}
-use Rattle.df_acting.specs.Classes.{IsEquality, IsMapGroup, IsSpread, in_one_class}
+use Rattle.df_lists.specs.Orders.{IsEquality}
+use Rattle.df_acting.specs.Classes.{IsMapGroup, IsSpread, in_one_class}
 use Rattle.df_acting.specs.Images as acting
 use Rattle.df_acting.proofs.ClassLaws.{permutes}
 use Rattle.df_acting.proofs.ImageLaws.{image_group, image_times}

@@ -11,7 +11,7 @@ use Rattle.std.proofs.Math.Nat.{two-pow-succ, pow-le-pow_right, mul-mod_left, di
 use Rattle.df_lists.specs.Membership.{In}
 use Rattle.df_lists.specs.NumberSets.{has_member, with_member, members, weight, is_set}
 use Rattle.df_lists.specs.BitLaws.{members_put, has_members, weight_view}
-use Rattle.df_acting.proofs.TestLaws.{has_from}
+use Rattle.df_lists.proofs.TestLaws.{has_from}
 use Rattle.df_subsets.specs.Blocks.{Rises, IsBlock}
 use Rattle.df_subsets.proofs.BlockLaws.{Rises-wider, Rises-below, members_rise, none_below}
 

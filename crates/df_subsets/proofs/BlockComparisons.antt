@@ -11,7 +11,7 @@ use Rattle.std.proofs.lemmas.Nat.Bits.{bit_at_xor, bit_at-lt, bit_at-zero, bit_a
 use Rattle.std.proofs.Math.Nat.{div-eq_of_lt}
 use Rattle.df_lists.specs.NumberSets.{has_member, members, is_set}
 use Rattle.df_lists.specs.BitLaws.{has_members, weight_view}
-use Rattle.df_acting.proofs.TestLaws.{same_tests}
+use Rattle.df_lists.proofs.TestLaws.{same_tests}
 use Rattle.df_subsets.specs.Blocks.{Rises, IsBlock}
 use Rattle.df_subsets.proofs.BlockLaws.{members_rise, none_below}
 use Rattle.df_subsets.proofs.BlockBits.{weight_bound, members_low}

@@ -7,7 +7,7 @@ use Rattle.std.specs.Cmp.Lexicographic.{slice_cmp}
 use Rattle.df_lists.specs.Membership.{In}
 use Rattle.df_subsets.specs.Blocks.{Rises, before}
 use Rattle.df_subsets.specs.Subsets.{choose, subsets}
-use Rattle.df_acting.specs.Earliest.{IsOrder, IsSorted}
+use Rattle.df_lists.specs.Orders.{IsOrder, IsSorted}
 use Rattle.df_lists.proofs.MemberLaws.{In-append_cases, In-map_gives}
 use Rattle.df_subsets.proofs.SubsetLists.{choose_inside}
 

@@ -7,7 +7,7 @@ use Rattle.std.proofs.lemmas.Option.{slice_get-get_or, slice_get_within, get_or_
 use Rattle.std.specs.List.{range_with_len}
 use Rattle.df_lists.specs.Membership.{In}
 use Rattle.df_subsets.specs.Blocks.{Rises, IsBlock, before}
-use Rattle.df_acting.specs.Earliest.{IsSorted}
+use Rattle.df_lists.specs.Orders.{IsSorted}
 use Rattle.df_subsets.specs.Subsets.{choose, subsets, binomial, same_list, place_of, rank}
 use Rattle.df_subsets.proofs.BlockLaws.{Rises-wider}
 use Rattle.df_subsets.proofs.SubsetLists.{length-choose, subsets_inside, subsets_long, same_list-gives, same_list-self}

@@ -5,10 +5,10 @@ use Rattle.std.proofs.lemmas.List.Elements.{filter-append}
 use Rattle.std.specs.List.{range_with_len, list_any}
 use Rattle.df_lists.specs.Membership.{In, count}
 use Rattle.df_subsets.specs.Blocks.{Rises, IsBlock, before}
-use Rattle.df_acting.specs.Earliest.{IsSorted}
+use Rattle.df_lists.specs.Orders.{IsSorted}
 use Rattle.df_subsets.specs.Subsets.{choose, points, same_list, nonempty, candidates}
 use Rattle.df_lists.proofs.MemberLaws.{In-append_cases, In-map_gives, In-filter, In-filter_gives}
-use Rattle.df_acting.proofs.TestLaws.{same_tests, filter_agree}
+use Rattle.df_lists.proofs.TestLaws.{same_tests, filter_agree}
 use Rattle.df_subsets.proofs.SubsetLists.{Rises-from, subsets_inside, subsets_once, subsets_have, same_list-gives}
 use Rattle.df_subsets.proofs.BlockOrders.{sorted-append, sorted-map}
 

@@ -4,8 +4,8 @@ use Rattle.std.specs.Ordering.{nat_cmp, is_lt}
 use Rattle.std.specs.Cmp.Lexicographic.{slice_cmp}
 use Rattle.df_lists.specs.Membership.{In, count}
 use Rattle.df_subsets.specs.Blocks.{IsBlock, before}
-use Rattle.df_acting.specs.Classes.{IsEquality}
-use Rattle.df_acting.specs.Earliest.{IsOrder, IsSorted}
+use Rattle.df_lists.specs.Orders.{IsEquality}
+use Rattle.df_lists.specs.Orders.{IsOrder, IsSorted}
 use Rattle.df_subsets.specs.Subsets.{subsets, binomial, same_list, rank, candidates}
 
 -- blocks are told apart and ordered as lists

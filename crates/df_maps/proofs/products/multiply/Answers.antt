@@ -3,7 +3,7 @@ use Rattle.std.proofs.lemmas.Bool.{or_left, or_right, or_cases, cases_lt, both_w
 use Rattle.std.specs.List.{list_any}
 use Rattle.df_lists.specs.Membership.{In}
 use Rattle.df_maps.specs.Products.{products}
-use Rattle.df_acting.proofs.TestLaws.{any_from, any_gives}
+use Rattle.df_lists.proofs.TestLaws.{any_from, any_gives}
 use Rattle.df_maps.proofs.ProductLaws.{products_step}
 use Rattle.df_maps.proofs.products.multiply.Goals as goal
 

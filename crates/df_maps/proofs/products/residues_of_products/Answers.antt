@@ -2,7 +2,7 @@ use Rattle.std.proofs.Common.{◌≡◌, ◌∙◌, ◌∷◌, ◌++◌, [], ℕ
 use Rattle.std.specs.List.{range_with_len}
 use Rattle.df_lists.specs.NumberSets.{has_member}
 use Rattle.df_maps.specs.Products.{products}
-use Rattle.df_acting.proofs.TestLaws.{filter_agree, same_tests, has_from, has_gives}
+use Rattle.df_lists.proofs.TestLaws.{filter_agree, same_tests, has_from, has_gives}
 use Rattle.df_maps.proofs.ProductLaws.{products_are}
 use Rattle.df_maps.proofs.FilterSteps.{picked, passed, longer}
 use Rattle.df_maps.proofs.products.residues_of_products.Goals as goal

@@ -1,5 +1,5 @@
 use Rattle.std.proofs.Common.{sym, length, eqb, eq-eqb, eqb-true}
-use Rattle.df_acting.proofs.TestLaws.{any_from, any_gives}
+use Rattle.df_lists.proofs.TestLaws.{any_from, any_gives}
 use Rattle.df_subsets.proofs.SubsetLists.{subsets_inside, subsets_have}
 use Rattle.df_subsets.proofs.SizedLists.{candidates_sorted, candidates_inside, candidates_have, candidates_once}
 use Rattle.df_subsets.proofs.laws.candidates_are_all.Goals as goal

@@ -1,7 +1,7 @@
 use Rattle.std.proofs.Common.{◌≡◌, true, ap, sym, subst, ◌∙◌, eqb, eq-eqb, eqb-true}
 use Rattle.df_lists.specs.NumberSets.{members, weight}
 use Rattle.df_lists.specs.BitLaws.{weight_view}
-use Rattle.df_acting.proofs.TestLaws.{same_tests}
+use Rattle.df_lists.proofs.TestLaws.{same_tests}
 use Rattle.df_subsets.specs.Subsets.{same_list}
 use Rattle.df_subsets.proofs.SubsetLists.{same_list-gives, same_list-self}
 use Rattle.df_subsets.proofs.block.BlockPartialEq.eq.Goals as goal
