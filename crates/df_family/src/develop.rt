@@ -4,7 +4,7 @@ ghost use Rattle.std.specs.List.{range_with_len};
 ghost use Rattle.df_lists.specs.NumberSets.{has_member, IsSet};
 ghost use Rattle.df_lists.specs.LeastMembers.{any_below};
 ghost use Rattle.df_group.specs.Elements.{order_of, group_of, minus};
-ghost use Rattle.df_lang.specs.Problems.{IsStated, point_count};
+ghost use Rattle.df_lang.specs.Problems.{IsBlock, IsStated, point_count};
 ghost use Rattle.df_family.specs.Developments.{develop, is_listed as is_listed_by};
 ghost use Rattle.df_family.specs.Remainders.{IsFixing, IsFixingOf};
 
@@ -39,7 +39,9 @@ impl<'a> Develop<'a> {
     /// The whole development: of each block of the family, in the order of the source, its translates by the elements of the group, in their order.
     /// Of a short block each translate comes once, where it comes first.
     pub fn new(problem: &'a Problem) -> Develop<'a>
-        ensures { result ≡ develop problem.now }
+        ensures whole { result ≡ develop problem.now }
+        ensures blocks { All (IsBlock (point_count problem.now) problem.now.sizes) (develop problem.now) }
+        ensures sizes { All (λ block. length block ≤ 16) (develop problem.now) }
     {
         let _order = order(problem);
         Develop {

@@ -1,9 +1,9 @@
 // The difference table.
-ghost use Rattle.std.specs.Prelude.{◌≡◌, ◌≢◌, ◌+◌, ◌≤◌, ◌<◌, ◌++◌, [], ◌∷◌, map, length, position, IfOk, OnOk};
+ghost use Rattle.std.specs.Prelude.{◌≡◌, ◌≢◌, ◌+◌, ◌≤◌, ◌<◌, ◌++◌, [], ◌∷◌, map, length, position, All, IfOk, OnOk};
 ghost use Rattle.df_group.specs.Elements.{order_of};
 ghost use Rattle.df_lang.specs.Problems.{point_count};
 ghost use Rattle.df_lang.specs.Targets.{target as target_of};
-ghost use Rattle.df_family.specs.Tables.{differences, singles, pairs, pairs_of, stated as stated_of, entry, table, entry_at, is_wrong};
+ghost use Rattle.df_family.specs.Tables.{differences, singles, pairs, pairs_of, stated as stated_of, entry, table, IsRow, entry_at, is_wrong};
 ghost use Rattle.df_family.specs.Tallies.{HasNumber, IsTallyOf};
 
 use crate::OutOfMemory;
@@ -92,8 +92,10 @@ impl Table {
 
 /// The difference table of the problem's family: a row for each element but 0, for each fixed point and for each two fixed points.
 /// The error comes where memory is wanted and not there.
+#[tactic(auto, using(crate::proofs::TableRows::entries_are))]
 pub fn difference_table(alloc: Global, problem: &Problem) -> Result<Table, OutOfMemory>
-    ensures { IfOk result (λ t. t ≡ table problem.now) }
+    ensures table { IfOk result (λ t. t ≡ table problem.now) }
+    ensures rows { All (λ e. IsRow problem.now e.row) (table problem.now) }
 {
     let tally = tally_of(problem);
     let mut entries = Vec::new(alloc);

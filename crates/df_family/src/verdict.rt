@@ -6,7 +6,7 @@ ghost use Rattle.df_lang.specs.Balance.{IsBalanced};
 ghost use Rattle.df_lists.specs.NumberSets.{IsSet};
 ghost use Rattle.df_family.specs.Developments.{develop, translates};
 ghost use Rattle.df_family.specs.Tables.{IsAsStated, table as table_of};
-ghost use Rattle.df_family.specs.Verdicts.{verdict_on, is_accepted};
+ghost use Rattle.df_family.specs.Verdicts.{verdict_on, is_accepted, IsVerdictOn};
 
 use crate::OutOfMemory;
 use crate::problem_parts::order;
@@ -28,6 +28,7 @@ pub enum Verdict {
 /// The error comes where memory is wanted and not there.
 pub fn verify(alloc: Global, problem: &Problem) -> Result<Verdict, OutOfMemory>
     ensures verdict { IfOk result (λ v. v ≡ verdict_on problem.now) }
+    ensures row { IfOk result (IsVerdictOn problem.now) }
     ensures rows { IfOk result (λ v. (is_accepted v ≡ true) ↔ IsAsStated problem.now) }
     ensures balance { IfOk result (λ v. (is_accepted v ≡ true) ↔ IsBalanced problem.now (develop problem.now)) }
 {
