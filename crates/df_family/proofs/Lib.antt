@@ -4,3 +4,8 @@ pub mod DevelopedBlocks
 pub mod RowLaws
 pub mod TableRows
 pub mod TranslateLaws
+pub mod SetLaws
+pub mod RemainderLaws
+pub mod TallyLaws
+pub mod TableLaws
+pub mod VerdictLaws

@@ -37,9 +37,13 @@ differences s = map Diff (range_with_len 1 (order_of s.group - 1))
 abbrev pub singles : Stated → List Row
 singles s = map WithFixed (range_with_len 1 s.fixed)
 
+-- a row for each fixed point after this one
+abbrev pub pairs_of : Stated → ℕ → List Row
+pairs_of s i = map (TwoFixed i) (range_with_len (i + 1) (s.fixed - i))
+
 -- a row for each two fixed points, the lower one first
 abbrev pub pairs : Stated → List Row
-pairs s = flat_map (λ i. map (TwoFixed i) (range_with_len (i + 1) (s.fixed - i))) (range_with_len 1 s.fixed)
+pairs s = flat_map (pairs_of s) (range_with_len 1 s.fixed)
 
 abbrev pub rows : Stated → List Row
 rows s = differences s ++ (singles s ++ pairs s)

@@ -1,0 +1,128 @@
+// The development of a family, one block after another.
+ghost use Rattle.std.specs.Prelude.{◌≡◌, ◌+◌, ◌-◌, ◌≤◌, ◌<◌, ◌∷◌, [], drop, not, find, length, All, IfSome, MatchOption};
+ghost use Rattle.std.specs.List.{range_with_len};
+ghost use Rattle.df_lists.specs.NumberSets.{has_member, IsSet};
+ghost use Rattle.df_lists.specs.LeastMembers.{any_below};
+ghost use Rattle.df_group.specs.Elements.{order_of, group_of, minus};
+ghost use Rattle.df_lang.specs.Problems.{IsBlock, IsStated, point_count};
+ghost use Rattle.df_family.specs.Developments.{develop, is_listed as is_listed_by};
+ghost use Rattle.df_family.specs.Remainders.{IsFixing, IsFixingOf};
+
+use crate::problem_parts::{difference, member_at, order};
+use crate::translate::{fixing, translated};
+use df_group::Elem;
+use df_lang::{Kind, Member, Problem};
+use df_subsets::{Block, Point};
+use std::marker::Model;
+
+/// What remains of the development of a problem's family, seen as the list of its blocks.
+#[derive(Drop)]
+pub struct Develop<'a> {
+    problem: &'a Problem,
+    member: usize,
+    shift: u8,
+    fixing: Block,
+}
+
+impl<'a> Model for Develop<'a> {
+    ghost use Rattle.std.specs.Prelude.{List, ℕ, drop};
+    ghost use Rattle.df_family.specs.Remainders.{left_from, IsPlace};
+
+    ghost Value = { List (List ℕ) };
+
+    ghost view = { λ d. left_from d.problem.now (drop d.member d.problem.now.family) d.shift };
+
+    ghost invariant = { λ d. IsPlace d.problem.now d.member d.shift d.fixing };
+}
+
+impl<'a> Develop<'a> {
+    /// The whole development: of each block of the family, in the order of the source, its translates by the elements of the group, in their order.
+    /// Of a short block each translate comes once, where it comes first.
+    pub fn new(problem: &'a Problem) -> Develop<'a>
+        ensures whole { result ≡ develop problem.now }
+        ensures blocks { All (IsBlock (point_count problem.now) problem.now.sizes) (develop problem.now) }
+        ensures sizes { All (λ block. length block ≤ 16) (develop problem.now) }
+    {
+        let _order = order(problem);
+        Develop {
+            problem,
+            member: 0,
+            shift: 0,
+            fixing: fixing_of(problem, 0),
+        }
+    }
+
+    /// The first block of what remains, which it leaves. `None` exactly where nothing remains, and then at each later call.
+    pub fn next(&mut self) -> Option<Block>
+        ensures { MatchOption result ((self.old ≡ []) × (self.new ≡ [])) (λ block. self.old ≡ block ∷ self.new) }
+    {
+        let problem = self.problem;
+        let member = member_at(problem, self.member)?;
+        let block = translated(problem, &member.block, Elem(self.shift));
+        match next_listed(problem, &member, &self.fixing, self.shift + 1) {
+            Some(shift) => self.shift = shift,
+            None => {
+                self.member += 1;
+                self.shift = 0;
+                self.fixing = fixing_of(problem, self.member);
+            }
+        }
+        Some(block)
+    }
+}
+
+// The elements that fix the block of this member, where it is short.
+fn fixing_of(problem: &Problem, member: usize) -> Block
+    ensures { IsFixingOf problem.now (drop member problem.now.family) result }
+{
+    match member_at(problem, member) {
+        None => Block::empty(),
+        Some(member) => match member.kind {
+            Kind::Base => Block::empty(),
+            Kind::Short => fixing(problem, &member.block),
+        },
+    }
+}
+
+// The first element from this number on by which the member's translate is listed.
+fn next_listed(problem: &Problem, member: &Member, fixing: &Block, from: u8) -> Option<u8>
+    requires from { from ≤ order_of problem.now.group }
+    requires rules { IsStated problem.now }
+    requires set { IsSet (point_count problem.now) member.now.block }
+    requires fixing { IsFixing problem.now member.now.kind member.now.block fixing.now }
+    ensures { result ≡ find (is_listed_by problem.now member.now.kind member.now.block) (range_with_len from (order_of problem.now.group - from)) }
+{
+    for g in from..order(problem) {
+        if is_listed(problem, member, fixing, Elem(g)) {
+            return Some(g);
+        }
+    }
+    None
+}
+
+// Whether the member's translate by g is listed.
+fn is_listed(problem: &Problem, member: &Member, fixing: &Block, g: Elem) -> bool
+    requires below { g < order_of problem.now.group }
+    requires rules { IsStated problem.now }
+    requires set { IsSet (point_count problem.now) member.now.block }
+    requires fixing { IsFixing problem.now member.now.kind member.now.block fixing.now }
+    ensures { result ≡ is_listed_by problem.now member.now.kind member.now.block g }
+{
+    match member.kind {
+        Kind::Base => true,
+        Kind::Short => is_first(problem, fixing, g),
+    }
+}
+
+// Whether the difference of g from each lower element isn't one of these.
+fn is_first(problem: &Problem, fixing: &Block, g: Elem) -> bool
+    requires { g < order_of problem.now.group }
+    ensures { result ≡ not (any_below (λ h. has_member fixing.now (minus (group_of problem.now.group) g h)) g) }
+{
+    for h in 0..g.0 {
+        if fixing.has(Point(difference(problem, g, Elem(h)).0)) {
+            return false;
+        }
+    }
+    true
+}

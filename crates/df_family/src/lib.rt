@@ -5,16 +5,21 @@
 
 mod develop;
 mod laws;
+mod pending;
+mod problem_parts;
 mod table;
+mod tally;
 mod translate;
 mod verdict;
 
+pub use develop::Develop;
 pub use laws::{
     division_leaves_no_rest, table_tells_balance, translates_divide_the_order,
     translates_hold_preimages,
 };
-pub use table::Row;
-pub use verdict::Verdict;
+pub use table::{Row, Table, difference_table};
+pub use translate::stabilizer;
+pub use verdict::{Verdict, verify};
 
 /// Memory was wanted and not there.
 pub type OutOfMemory = std::alloc::AllocError;

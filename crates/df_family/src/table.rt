@@ -1,5 +1,20 @@
 // The difference table.
+ghost use Rattle.std.specs.Prelude.{◌≡◌, ◌≢◌, ◌+◌, ◌≤◌, ◌<◌, ◌++◌, [], ◌∷◌, map, length, position, All, IfOk, OnOk};
+ghost use Rattle.df_group.specs.Elements.{order_of};
+ghost use Rattle.df_lang.specs.Problems.{point_count};
+ghost use Rattle.df_lang.specs.Targets.{target as target_of};
+ghost use Rattle.df_family.specs.Tables.{differences, singles, pairs, pairs_of, stated as stated_of, entry, table, IsRow, entry_at, is_wrong};
+ghost use Rattle.df_family.specs.Tallies.{HasNumber, IsTallyOf};
+
+use crate::OutOfMemory;
+use crate::pending;
+use crate::problem_parts::{fixed, fixed_point, order};
+use crate::tally::Tally;
 use df_group::Elem;
+use df_lang::Problem;
+use df_subsets::Point;
+use std::alloc::Global;
+use std::marker::Model;
 
 /// A row of the difference table.
 #[derive(Clone, Copy, Debug, PartialEq, Eq)]
@@ -18,4 +33,148 @@ pub struct Entry {
     pub row: Row,
     pub found: u64,
     pub stated: u64,
+}
+
+/// The difference table of a family, seen as the list of its rows with their numbers: how often each is found, and how often that is stated.
+#[derive(Drop)]
+pub struct Table {
+    entries: Vec<Entry>,
+}
+
+impl Model for Table {
+    ghost use Rattle.std.specs.Prelude.{List};
+    ghost use Rattle.df_family.specs.declared.table.Entry.{Entry};
+
+    ghost Value = { List Entry };
+
+    ghost view = { λ t. t.entries.items };
+}
+
+impl Table {
+    /// How many rows there are.
+    pub fn len(&self) -> usize
+        ensures { result ≡ length self.now }
+    {
+        self.entries.len()
+    }
+
+    /// The row at this place, from 0.
+    pub fn row(&self, place: usize) -> Row
+        requires { place < length self.now }
+        ensures { result ≡ (entry_at self.now place).row }
+    {
+        self.entries[place].row
+    }
+
+    /// How often the row at this place is found.
+    pub fn found(&self, place: usize) -> u64
+        requires { place < length self.now }
+        ensures { result ≡ (entry_at self.now place).found }
+    {
+        self.entries[place].found
+    }
+
+    /// How often the row at this place is stated.
+    pub fn stated(&self, place: usize) -> u64
+        requires { place < length self.now }
+        ensures { result ≡ (entry_at self.now place).stated }
+    {
+        self.entries[place].stated
+    }
+
+    /// The first place whose two numbers differ. `None` exactly where none does.
+    pub fn first_wrong(&self) -> Option<usize>
+        ensures { result ≡ position is_wrong self.now }
+    {
+        self.entries.iter().position(|e| e.found != e.stated)
+    }
+}
+
+/// The difference table of the problem's family: a row for each element but 0, for each fixed point and for each two fixed points.
+/// The error comes where memory is wanted and not there.
+#[tactic(auto, using(crate::proofs::TableRows::entries_are))]
+pub fn difference_table(alloc: Global, problem: &Problem) -> Result<Table, OutOfMemory>
+    ensures table { IfOk result (λ t. t ≡ table problem.now) }
+    ensures rows { All (λ e. IsRow problem.now e.row) (table problem.now) }
+{
+    let tally = tally_of(problem);
+    let mut entries = Vec::new(alloc);
+    push_differences(&mut entries, problem, &tally)?;
+    push_singles(&mut entries, problem, &tally)?;
+    push_pairs(&mut entries, problem, &tally)?;
+    Ok(Table { entries })
+}
+
+// How often each row is found in the family.
+fn tally_of(problem: &Problem) -> Tally
+    ensures { IsTallyOf problem.now result }
+{
+    let mut tally = Tally::new();
+    for member in &problem.family {
+        tally.count_member(problem, member);
+    }
+    tally
+}
+
+fn push_differences(entries: &mut Vec<Entry>, problem: &Problem, tally: &Tally) -> Result<(), OutOfMemory>
+    requires { IsTallyOf problem.now tally.now }
+    ensures { OnOk result (entries.new.items ≡ entries.old.items ++ map (entry problem.now) (differences problem.now)) }
+{
+    for d in 1..order(problem) {
+        push_row(entries, problem, tally, &Row::Diff(Elem(d)), Point(0), Point(d))?;
+    }
+    Ok(())
+}
+
+fn push_singles(entries: &mut Vec<Entry>, problem: &Problem, tally: &Tally) -> Result<(), OutOfMemory>
+    requires { IsTallyOf problem.now tally.now }
+    ensures { OnOk result (entries.new.items ≡ entries.old.items ++ map (entry problem.now) (singles problem.now)) }
+{
+    for i in 1..fixed(problem) + 1 {
+        push_row(entries, problem, tally, &Row::WithFixed(i), Point(0), fixed_point(problem, i))?;
+    }
+    Ok(())
+}
+
+fn push_pairs(entries: &mut Vec<Entry>, problem: &Problem, tally: &Tally) -> Result<(), OutOfMemory>
+    requires { IsTallyOf problem.now tally.now }
+    ensures { OnOk result (entries.new.items ≡ entries.old.items ++ map (entry problem.now) (pairs problem.now)) }
+{
+    for i in 1..fixed(problem) + 1 {
+        push_pairs_of(entries, problem, tally, i)?;
+    }
+    Ok(())
+}
+
+// The rows of this fixed point and a later one.
+fn push_pairs_of(entries: &mut Vec<Entry>, problem: &Problem, tally: &Tally, i: u8) -> Result<(), OutOfMemory>
+    requires tally { IsTallyOf problem.now tally.now }
+    requires some { 0 < i }
+    requires fixed { i ≤ problem.now.fixed }
+    requires few { problem.now.fixed ≤ 16 }
+    ensures { OnOk result (entries.new.items ≡ entries.old.items ++ map (entry problem.now) (pairs_of problem.now i)) }
+{
+    let first = fixed_point(problem, i);
+    for j in i + 1..fixed(problem) + 1 {
+        push_row(entries, problem, tally, &Row::TwoFixed(i, j), first, fixed_point(problem, j))?;
+    }
+    Ok(())
+}
+
+// A row, and a pair of points of that kind.
+fn push_row(entries: &mut Vec<Entry>, problem: &Problem, tally: &Tally, row: &Row, p: Point, q: Point) -> Result<(), OutOfMemory>
+    requires tally { IsTallyOf problem.now tally.now }
+    requires number { HasNumber problem.now row.now }
+    requires apart { p ≢ q }
+    requires p { p < point_count problem.now }
+    requires q { q < point_count problem.now }
+    requires target { target_of problem.now p q ≡ stated_of problem.now row.now }
+    ensures { OnOk result (entries.new.items ≡ entries.old.items ++ entry problem.now row.now ∷ []) }
+{
+    entries.push(Entry {
+        row: *row,
+        found: tally.number(problem, *row),
+        stated: u64::from(pending::target(problem, p, q)),
+    })?;
+    Ok(())
 }

@@ -1,0 +1,62 @@
+// Translates of blocks, and the translations that fix a block.
+ghost use Rattle.std.specs.Prelude.{◌≡◌, ◌≤◌, ◌<◌, All, length, filter};
+ghost use Rattle.df_group.specs.Elements.{order_of};
+ghost use Rattle.df_lang.specs.Problems.{point_count};
+ghost use Rattle.df_family.specs.Translates.{elements, shifted as shifted_point, translate, fixes, stabilizer as stabilizer_of};
+
+use crate::problem_parts::{order, sum};
+use df_group::Elem;
+use df_lang::Problem;
+use df_subsets::{Block, Point};
+
+/// How many elements g of the group there are with block + g = block, where the block's points lie below v.
+pub fn stabilizer(problem: &Problem, block: &Block) -> u32
+    requires { All (λ p. p < point_count problem.now) block.now }
+    ensures count { result ≡ stabilizer_of problem.now block.now }
+    ensures some { result ≤ order_of problem.now.group }
+{
+    u32::from(fixing(problem, block).size())
+}
+
+/// The elements g with block + g = block, as a set of points.
+pub fn fixing(problem: &Problem, block: &Block) -> Block
+    requires { All (λ p. p < point_count problem.now) block.now }
+    ensures { result ≡ filter (fixes problem.now block.now) (elements problem.now) }
+{
+    let mut fixing = Block::empty();
+    for g in 0..order(problem) {
+        if translated(problem, block, Elem(g)) == *block {
+            fixing.insert(Point(g));
+        }
+    }
+    fixing
+}
+
+/// block + g.
+pub fn translated(problem: &Problem, block: &Block, g: Elem) -> Block
+    requires g { g < order_of problem.now.group }
+    requires points { All (λ p. p < point_count problem.now) block.now }
+    ensures { result ≡ translate problem.now block.now g }
+{
+    let points = block.points();
+    let mut translated = Block::empty();
+    for p in points.as_slice() {
+        translated.insert(shifted(problem, g, *p));
+    }
+    translated
+}
+
+// Where adding g carries the point.
+fn shifted(problem: &Problem, g: Elem, p: Point) -> Point
+    requires g { g < order_of problem.now.group }
+    requires p { p < point_count problem.now }
+    ensures point { result ≡ shifted_point problem.now g p }
+    ensures below { result < point_count problem.now }
+    ensures few { point_count problem.now ≤ 128 }
+{
+    if p.0 < order(problem) {
+        Point(sum(problem, Elem(p.0), g).0)
+    } else {
+        p
+    }
+}

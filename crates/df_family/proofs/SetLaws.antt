@@ -1,0 +1,52 @@
+-- Sets of numbers that grow by one number.
+use Rattle.std.proofs.Common.{◌≡◌, ◌≢◌, ℕ, zero, suc, ◌+◌, ◌<◌, ◌≤◌, Bool, true, false, cond, ◌||◌, eqb, ltb, List, [], ◌∷◌, ◌++◌, map, filter, take, get_or, length, refl, sym, ap, ◌∙◌, arith, tests, append-nil, eq-eqb, ne_eqb}
+use Rattle.std.specs.List.{range_with_len, list_any}
+use Rattle.std.proofs.lemmas.List.{map_more}
+use Rattle.df_lists.specs.NumberSets.{has_member, set_of, with_member}
+use Rattle.df_lists.specs.BitLaws.{placed, filter_more}
+
+has_last : (xs : List ℕ) (x : ℕ) → has_member (xs ++ x ∷ []) x ≡ true
+has_last [] x = rw (eq-eqb x x refl) refl
+has_last (y ∷ xs) x = ap (λ v. eqb y x || v) (has_last xs x) ∙ or_true (eqb y x)
+  where
+    or_true : (v : Bool) → (v || true) ≡ true
+    or_true true = refl
+    or_true false = refl
+
+has_other : (xs : List ℕ) (x i : ℕ) → i ≢ x → has_member (xs ++ x ∷ []) i ≡ has_member xs i
+has_other [] x i h = rw (ne_eqb x i (λ e. h (sym e))) refl
+has_other (y ∷ xs) x i h = ap (λ v. eqb y i || v) (has_other xs x i h)
+
+pub set_none : (v : ℕ) → set_of v [] ≡ []
+set_none v = nothing (range_with_len 0 v)
+  where
+    nothing : (xs : List ℕ) → filter (λ q. false) xs ≡ []
+    nothing [] = refl
+    nothing (x ∷ xs) = nothing xs
+
+-- one more number
+pub set_more : (v : ℕ) (xs : List ℕ) (x : ℕ) → x < v → with_member x (set_of v xs) ≡ set_of v (xs ++ x ∷ [])
+set_more v xs x h = sym (placed (has_member xs) (has_member (xs ++ x ∷ [])) x (has_last xs x) (has_other xs x) 0 v (omega arith) (omega arith))
+
+pub image_more : (v : ℕ) (f : ℕ → ℕ) (xs : List ℕ) (i x : ℕ) → i < length xs → x ≡ get_or xs i x → f x < v → with_member (f x) (set_of v (map f (take i xs))) ≡ set_of v (map f (take (i + 1) xs))
+image_more v f xs i x h is below = set_more v (map f (take i xs)) (f x) below ∙ ap (set_of v) (ap (λ y. map f (take i xs) ++ f y ∷ []) is ∙ sym (map_more f xs i x h))
+
+-- a number above all that a test picks
+above_all : (t : ℕ → Bool) (a n p : ℕ) → a + n ≤ p → with_member p (filter t (range_with_len a n)) ≡ filter t (range_with_len a n) ++ p ∷ []
+above_all t a zero p h = refl
+above_all t a (suc n) p h =
+    let ih = above_all t (a + 1) n p (omega arith) in
+    let less : ltb p a ≡ false = grind (arith, tests) in
+    let differs : eqb p a ≡ false = grind (arith, tests) in
+    let rest = filter t (range_with_len (a + 1) n) in
+    elim (t a) as (λ v. with_member p (cond v (a ∷ rest) rest) ≡ cond v (a ∷ rest) rest ++ p ∷ []) [
+      | true ↦ rw (less, differs, ih) refl
+      | false ↦ ih
+    ]
+
+-- the next number of a range, where the test picks it and where it doesn't
+pub picked : (t : ℕ → Bool) (n : ℕ) → t n ≡ true → with_member n (filter t (range_with_len 0 n)) ≡ filter t (range_with_len 0 (n + 1))
+picked t n e = above_all t 0 n n (omega arith) ∙ sym (filter_more t n ∙ ap (λ v. filter t (range_with_len 0 n) ++ cond v (n ∷ []) []) e)
+
+pub passed_over : (t : ℕ → Bool) (n : ℕ) → t n ≡ false → filter t (range_with_len 0 n) ≡ filter t (range_with_len 0 (n + 1))
+passed_over t n e = sym (filter_more t n ∙ ap (λ v. filter t (range_with_len 0 n) ++ cond v (n ∷ []) []) e ∙ append-nil (filter t (range_with_len 0 n)))

@@ -1,0 +1,4 @@
+use Rattle.df_family.proofs.pending.target.Goals as goal
+
+pub returns : goal.returns
+returns c = ?
