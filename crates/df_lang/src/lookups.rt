@@ -1,5 +1,5 @@
 // Names of subgroups, looked up in the table.
-ghost use Rattle.std.specs.Prelude.{◌≡◌, ◌≤◌, ◌<◌, ◌^◌, length, map, All, Ok, Err, MatchResult, IfSome};
+ghost use Rattle.std.specs.Prelude.{◌≡◌, ◌≤◌, ◌<◌, ◌^◌, length, map, All, Ok, Err, MatchResult, IfSome, IfOk, None};
 ghost use Rattle.df_lang.specs.Problems.{Named};
 ghost use Rattle.df_lang.specs.Stored.{named};
 ghost use Rattle.df_lang.specs.Values.{place_of, name_of, which_of};
@@ -26,8 +26,10 @@ fn place(names: &IndexMap<Name, Subgroup>, token: &[u8]) -> Option<usize>
 #[tactic(auto, unfolding(crate::specs::Values::name_of))]
 pub(crate) fn new_name(names: &IndexMap<Name, Subgroup>, token: &[u8]) -> Result<Name, SourceFault>
     requires { All (λ (n : Named). length n.0 ≤ 16) (map named names.now.entries) }
-    ensures { MatchResult result (λ new. name_of (map named names.now.entries) token.now ≡ Ok new.items)
+    ensures value { MatchResult result (λ new. name_of (map named names.now.entries) token.now ≡ Ok new.items)
         (λ fault. name_of (map named names.now.entries) token.now ≡ Err fault) }
+    ensures absent { IfOk result (λ new. place_of (map named names.now.entries) new.items ≡ None) }
+    ensures short { IfOk result (λ new. length new.items ≤ 16) }
 {
     if !is_name(token) {
         return Err(SourceFault::BadWord);

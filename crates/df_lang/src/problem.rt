@@ -67,7 +67,9 @@ impl Model for Problem {
 
 impl Problem {
     ghost use Rattle.std.specs.Prelude.{◌≡◌, ◌≤◌};
-    ghost use Rattle.df_lang.specs.Problems.{point_count};
+    ghost use Rattle.df_group.specs.Subgroups.{IsSubgroup};
+    ghost use Rattle.df_lang.specs.Problems.{point_count, IsWord};
+    ghost use Rattle.df_lang.specs.Targets.{subgroup_at};
 
     /// The number of points, from 2 to 128: the elements of the group and the fixed points.
     pub fn points(&self) -> u8
@@ -75,5 +77,21 @@ impl Problem {
         ensures most { result ≤ 128 }
     {
         self.shape.order() + self.fixed
+    }
+
+    /// The subgroup that a subgroup word names. Condition: the number of a named one is below the number of names.
+    pub fn subgroup(&self, which: Which) -> Subgroup
+        requires { IsWord self.now.names which }
+        ensures members { result ≡ subgroup_at self.now which }
+        ensures subgroup { IsSubgroup self.now.group result }
+    {
+        match which {
+            Which::All => Subgroup::whole(&self.shape),
+            Which::Trivial => Subgroup::trivial(&self.shape),
+            Which::Named(place) => match self.names.get_index(place as usize) {
+                Some((_, subgroup)) => *subgroup,
+                None => unreachable!(),
+            },
+        }
     }
 }

@@ -1,17 +1,20 @@
 // Takes the statements of a source, one by one.
-ghost use Rattle.std.specs.Prelude.{◌≡◌, ◌≤◌, ◌<◌, ◌∷◌, [], length};
+ghost use Rattle.std.specs.Prelude.{◌≡◌, ◌∷◌, ◌++◌, ◌≤◌, [], length, map, None, Ok};
 ghost use Rattle.df_io.specs.Lines.{left};
 ghost use Rattle.df_lang.specs.Drafts.{above, Goes, GoesOn};
-ghost use Rattle.df_lang.specs.Values.{shift_of, inside_of};
+ghost use Rattle.df_lang.specs.Stored.{named};
+ghost use Rattle.df_lang.specs.Values.{place_of};
 ghost use Rattle.df_lang.specs.Statements.{fixed_line, subgroup_line, shift_line, mult_line, size_line, lambda_line, inside_line, hole_line};
 
 use crate::draft::Draft;
 use crate::fault::{SourceFault, Stop};
-use crate::lookups::which;
+use crate::generators::elements;
+use crate::lookups::{new_name, which};
 use crate::multipliers::multipliers;
-use crate::parts::{Inside, Which};
+use crate::parts::{Inside, Name};
 use crate::sizes::{size_list, sizes};
 use crate::tokens::{end, needed, number_in, one_number};
+use df_group::Subgroup;
 use df_io::Tokens;
 use std::alloc::Global;
 
@@ -35,7 +38,26 @@ impl Draft {
     pub(crate) fn subgroup(&mut self, alloc: Global, tokens: &mut Tokens<'_>) -> Result<(), Stop>
         ensures { GoesOn (subgroup_line (above self.old) (left tokens.old)) (above self.new) result }
     {
-        Err(Stop::OutOfMemory)
+        let token = needed(tokens)?;
+        let name = new_name(&self.names, token)?;
+        let elements = elements(alloc, &self.shape, tokens)?;
+        let subgroup = Subgroup::generate(&self.shape, elements.as_slice());
+        self.add_subgroup(name, subgroup)
+    }
+
+    // A table of 4,294,967,295 names is full. No source of at most 4,294,967,296 bytes fills it.
+    fn add_subgroup(&mut self, name: Name, subgroup: Subgroup) -> Result<(), Stop>
+        requires absent { place_of (map named self.old.names.entries) name.items ≡ None }
+        requires short { length name.items ≤ 16 }
+        ensures { GoesOn (Ok (record (above self.old) { names = (above self.old).names ++ (name.items, subgroup) ∷ [] })) (above self.new) result }
+    {
+        if self.names.len() >= 4_294_967_295 {
+            return Err(Stop::OutOfMemory);
+        }
+        match self.names.insert(name, subgroup) {
+            Ok(_) => Ok(()),
+            Err(_) => Err(Stop::OutOfMemory),
+        }
     }
 
     /// The line of `shift`.
