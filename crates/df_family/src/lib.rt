@@ -5,7 +5,6 @@
 
 mod develop;
 mod laws;
-mod pending;
 mod problem_parts;
 mod table;
 mod tally;

@@ -7,11 +7,11 @@ ghost use Rattle.df_family.specs.Tables.{differences, singles, pairs, pairs_of, 
 ghost use Rattle.df_family.specs.Tallies.{HasNumber, IsTallyOf};
 
 use crate::OutOfMemory;
-use crate::pending;
+
 use crate::problem_parts::{fixed, fixed_point, order};
 use crate::tally::Tally;
 use df_group::Elem;
-use df_lang::Problem;
+use df_lang::{Problem, target};
 use df_subsets::Point;
 use std::alloc::Global;
 use std::marker::Model;
@@ -174,7 +174,7 @@ fn push_row(entries: &mut Vec<Entry>, problem: &Problem, tally: &Tally, row: &Ro
     entries.push(Entry {
         row: *row,
         found: tally.number(problem, *row),
-        stated: u64::from(pending::target(problem, p, q)),
+        stated: u64::from(target(problem, p, q)),
     })?;
     Ok(())
 }
