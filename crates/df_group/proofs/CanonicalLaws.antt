@@ -2,6 +2,7 @@
 use Rattle.std.proofs.Common.{All, get_or, ◌≡◌, ℕ, zero, suc, ◌+◌, ◌-◌, ◌*◌, ◌^◌, ◌<◌, ◌≤◌, Bool, true, false, cond, List, [], ◌∷◌, ◌++◌, length, filter, if◌then◌else◌, ◌⊎◌, refl, sym, ap, ◌∙◌, inl, inr, ⊎_elim, subst, arith, append_assoc, length-append}
 use Rattle.std.proofs.Math.Nat.{pow-suc, pow-le-pow_right}
 use Rattle.std.proofs.lemmas.Bool.{both_ways, cases_lt}
+use Rattle.std.specs.Cmp.{both_ways as same_tests}
 use Rattle.std.specs.List.{range_with_len}
 use Rattle.df_lists.specs.Membership.{In}
 use Rattle.df_lists.specs.NumberSets.{has_member, IsSet}
@@ -14,7 +15,7 @@ use Rattle.df_group.specs.Subgroups.{sums, generated, canonical_from, canonical_
 use Rattle.df_group.proofs.ElementLaws.{is_group}
 use Rattle.df_group.proofs.GroupLaws.{turns_less, minus_minus, less_more}
 use Rattle.df_group.proofs.SumLaws.{has_In, In_has, sum_tail, sum_within, sum_generator, sum_plus, sum_minus, sum_least, sum_among}
-use Rattle.df_group.proofs.GeneratedSets.{same_tests, same_sets, generated_set, generated_none, generated_turn, sum_member, member_sum}
+use Rattle.df_group.proofs.GeneratedSets.{same_sets, generated_set, generated_none, generated_turn, sum_member, member_sum}
 
 -- sizes as totals
 pub size_total : (t : ℕ → Bool) (n : ℕ) → length (filter t (range_with_len 0 n)) ≡ total (λ i. one (t i)) n

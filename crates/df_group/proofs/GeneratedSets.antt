@@ -1,6 +1,7 @@
 -- The subgroup of generators as an increasing list.
 use Rattle.std.proofs.Common.{◌≡◌, ℕ, zero, suc, ◌+◌, ◌-◌, ◌<◌, ◌≤◌, Bool, true, false, cond, eqb, ltb, ◌&&◌, ◌||◌, if◌then◌else◌, List, [], ◌∷◌, ◌++◌, filter, refl, sym, ap, ◌∙◌, inl, inr, ⊎_elim, subst, arith, eq-eqb, tests, append-nil}
 use Rattle.std.proofs.lemmas.Bool.{eqb-true}
+use Rattle.std.specs.Cmp.{both_ways as same_tests}
 use Rattle.std.specs.List.{range_with_len}
 use Rattle.df_lists.specs.Membership.{In}
 use Rattle.df_lists.specs.LeastMembers.{any_below}
@@ -14,12 +15,7 @@ use Rattle.df_group.specs.Subgroups.{exponent_of, sums, generated, IsKept}
 use Rattle.df_group.proofs.ElementLaws.{is_group}
 use Rattle.df_group.proofs.SumLaws.{has_In, In_has, sum_more, sum_gives, sum_within, sum_tail, sum_among, sum_generator, sum_plus, sum_times, sum_none, sum_none_gives}
 
--- tests that imply one another are the same
-pub same_tests : (v w : Bool) → (v ≡ true → w ≡ true) → (w ≡ true → v ≡ true) → v ≡ w
-same_tests true w f g = sym (f refl)
-same_tests false true f g = g refl
-same_tests false false f g = refl
-
+-- the parts of a test that holds
 pub and_left : (v w : Bool) → (v && w) ≡ true → v ≡ true
 and_left true w h = refl
 and_left false w h = h

@@ -1,29 +1,12 @@
 -- The place of an element in the list of all elements.
 use Rattle.std.proofs.Common.{◌≡◌, ℕ, zero, suc, ◌+◌, ◌*◌, ◌/◌, ◌%◌, ◌<◌, List, [], ◌∷◌, ◌++◌, map, length, get_or, refl, sym, ap, ◌∙◌, arith, length-append, suc-mul, mod-lt, mod-eq_of_lt, div-add-mod'}
 use Rattle.std.specs.List.{flat_map, range_with_len}
+use Rattle.std.proofs.lemmas.List.{length-map, get_or-map, get_or-append-add}
+use Rattle.std.proofs.Math.ListN.{get_or-append}
 use Rattle.std.proofs.lemmas.Nat.{div_below}
 use Rattle.df_group.specs.Elements.{order_of, elements, residues}
 use Rattle.df_group.specs.Places.{ElementsLaw}
 use Rattle.df_group.proofs.ElementLaws.{ArePositive, positive_shape, order_some, residues_are, number_within, residues_number, number_residues}
-
-length-map : {X Y : Type 0} (f : X → Y) (xs : List X) → length (map f xs) ≡ length xs
-length-map f [] = refl
-length-map f (x ∷ xs) = ap suc (length-map f xs)
-
-get_or-map : {X Y : Type 0} (f : X → Y) (xs : List X) (i : ℕ) (d : Y) (c : X) → i < length xs → get_or (map f xs) i d ≡ f (get_or xs i c)
-get_or-map f [] i d c l = absurd (omega arith)
-get_or-map f (x ∷ xs) zero d c l = refl
-get_or-map f (x ∷ xs) (suc i) d c l = get_or-map f xs i d c (omega arith)
-
-get_or-front : {X : Type 0} (xs ys : List X) (i : ℕ) (d : X) → i < length xs → get_or (xs ++ ys) i d ≡ get_or xs i d
-get_or-front [] ys i d l = absurd (omega arith)
-get_or-front (x ∷ xs) ys zero d l = refl
-get_or-front (x ∷ xs) ys (suc i) d l = get_or-front xs ys i d (omega arith)
-
-get_or-back : {X : Type 0} (xs ys : List X) (i j : ℕ) (d : X) → i ≡ length xs + j → get_or (xs ++ ys) i d ≡ get_or ys j d
-get_or-back [] ys i j d e = ap (λ k. get_or ys k d) (let x : i ≡ j = omega arith in x)
-get_or-back (x ∷ xs) ys zero j d e = absurd (omega arith)
-get_or-back (x ∷ xs) ys (suc i) j d e = get_or-back xs ys i j d (omega arith)
 
 -- blocks of one length
 module _ {X : Type 0} (g : ℕ → List X) (o : ℕ) (long : (r : ℕ) → length (g r) ≡ o) where
@@ -36,15 +19,16 @@ module _ {X : Type 0} (g : ℕ → List X) (o : ℕ) (long : (r : ℕ) → lengt
   block_at a (suc n) zero r d l m =
       let e : 0 * o + r ≡ r = omega arith in
       let f : a + 0 ≡ a = omega arith in
-      rw (e, f) (get_or-front (g a) (flat_map g (range_with_len (a + 1) n)) r d (omega (arith, long a)))
+      rw (e, f) (get_or-append (g a) (flat_map g (range_with_len (a + 1) n)) d r (omega (arith, long a)))
   block_at a (suc n) (suc q) r d l m =
       let f : a + suc q ≡ a + 1 + q = omega arith in
-      get_or-back (g a) (flat_map g (range_with_len (a + 1) n)) (suc q * o + r) (q * o + r) d (omega (arith, long a, suc-mul q o))
+      let past : suc q * o + r ≡ length (g a) + (q * o + r) = omega (arith, long a, suc-mul q o) in
+      ap (λ k. get_or (g a ++ flat_map g (range_with_len (a + 1) n)) k d) past ∙ get_or-append-add (g a) (flat_map g (range_with_len (a + 1) n)) (q * o + r) d
       ∙ block_at (a + 1) n q r d (omega arith) m ∙ ap (λ k. get_or (g k) r d) (sym f)
 
 elements_size : (fs : List ℕ) → length (elements fs) ≡ order_of fs
 elements_size [] = refl
-elements_size (f ∷ fs) = length-blocks (λ r. map (λ e. r ∷ e) (elements fs)) (order_of fs) (λ r. length-map (λ e. r ∷ e) (elements fs) ∙ elements_size fs) 0 f
+elements_size (f ∷ fs) = length-blocks (λ r. map (λ e. r ∷ e) (elements fs)) (order_of fs) (λ r. length-map (elements fs) (λ e. r ∷ e) ∙ elements_size fs) 0 f
 
 element_placed : (fs : List ℕ) → ArePositive fs → (e : ℕ) (none : List ℕ) → e < order_of fs → get_or (elements fs) e none ≡ residues fs e
 element_placed [] p zero none l = refl
@@ -57,10 +41,10 @@ element_placed (f ∷ fs) p e none l =
     let high : q < f = div_below e o f some l in
     let low : r < o = mod-lt e some in
     let whole : e ≡ q * o + r = sym (div-add-mod' e o) in
-    let block = block_at (λ r. map (λ e. r ∷ e) (elements fs)) o (λ r. length-map (λ e. r ∷ e) (elements fs) ∙ elements_size fs) 0 f q r none high low in
+    let block = block_at (λ r. map (λ e. r ∷ e) (elements fs)) o (λ r. length-map (elements fs) (λ e. r ∷ e) ∙ elements_size fs) 0 f q r none high low in
     let first : 0 + q ≡ q % f = omega (arith, mod-eq_of_lt high) in
     ap (λ k. get_or (elements (f ∷ fs)) k none) whole ∙ block
-    ∙ get_or-map (λ e. (0 + q) ∷ e) (elements fs) r none [] (omega (arith, elements_size fs))
+    ∙ get_or-map (λ e. (0 + q) ∷ e) (elements fs) r [] none (omega (arith, elements_size fs))
     ∙ ap (λ l. (0 + q) ∷ l) (element_placed fs p.1 r [] low) ∙ ap (λ k. k ∷ residues fs r) first
 
 pub are_numbered : ElementsLaw

@@ -1,4 +1,4 @@
--- Products of cyclic groups: an element is a list of residues, one for each factor.
+-- Products of cyclic groups (Beth, Jungnickel and Lenz, Design Theory): an element is a list of residues, one for each factor.
 use Rattle.std.specs.Prelude.{◌≡◌, ℕ, ◌+◌, ◌-◌, ◌*◌, ◌/◌, ◌%◌, ◌<◌, ◌≤◌, List, [], ◌∷◌, map, All, length}
 use Rattle.std.specs.List.{flat_map, range_with_len}
 

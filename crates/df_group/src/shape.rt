@@ -40,7 +40,8 @@ impl Model for Elem {
     ghost inverse_ok = { λ a h. refl };
 }
 
-/// A product of 1 to 7 cyclic groups of orders 2 to 128, with at most 128 elements, seen as its list of factors.
+/// A product of 1 to 7 cyclic groups of orders 2 to 128, with at most 128 elements, seen as its list of factors
+/// (Beth, Jungnickel and Lenz, *Design Theory*).
 #[derive(Drop)]
 pub struct Shape {
     factors: ArrayVec<u16, 7>,
@@ -86,7 +87,7 @@ impl Shape {
         })
     }
 
-    /// The same shape once more.
+    /// The same shape once more, without taking memory.
     pub fn copied(&self) -> Shape
         ensures { result ≡ self.now }
     {
@@ -111,6 +112,7 @@ impl Shape {
         ensures below { result < order_of self.now }
         ensures shape { IsShape self.now }
     {
+        // Brings in that no factor is 0, so that there is an element.
         let _ = &self.order;
         Elem(0)
     }
@@ -159,7 +161,7 @@ impl Shape {
         }
     }
 
-    /// The sum of two elements below the order.
+    /// The sum of two elements below the order, place by place. The answer is below the order.
     pub fn add(&self, a: Elem, b: Elem) -> Elem
         requires a { a < order_of self.now }
         requires b { b < order_of self.now }
@@ -175,7 +177,7 @@ impl Shape {
         Elem(residues::number_of(factors, sum.as_slice()))
     }
 
-    /// The negative of an element below the order.
+    /// The negative of an element below the order, place by place. The answer is below the order.
     pub fn neg(&self, a: Elem) -> Elem
         requires { a < order_of self.now }
         ensures negative { result ≡ (group_of self.now).neg a }
@@ -186,7 +188,7 @@ impl Shape {
         Elem(residues::number_of(factors, negative.as_slice()))
     }
 
-    /// The difference of two elements below the order.
+    /// The sum of `a` and the negative of `b`, both below the order. The answer is below the order.
     pub fn sub(&self, a: Elem, b: Elem) -> Elem
         requires a { a < order_of self.now }
         requires b { b < order_of self.now }
@@ -196,7 +198,7 @@ impl Shape {
         self.add(a, self.neg(b))
     }
 
-    /// The sum of `m` times an element below the order.
+    /// `m` times an element below the order: each residue times `m`.
     pub fn times(&self, m: u32, a: Elem) -> Elem
         requires { a < order_of self.now }
         ensures multiple { result ≡ (group_of self.now).times m a }

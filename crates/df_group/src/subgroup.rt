@@ -38,6 +38,7 @@ impl Model for Subgroup {
 
 impl Subgroup {
     /// The subgroup of these generators, which are below the order: all sums of their multiples. Without generators it holds 0 alone.
+    /// A generator that is in already costs one look; at most seven others count.
     pub fn generate(shape: &Shape, generators: &[Elem]) -> Subgroup
         requires { All (λ g. g < order_of shape.now) generators.now }
         ensures generated { result ≡ generated shape.now generators.now }
