@@ -1,0 +1,10 @@
+//! The texts of tables and of faults, as lines that a buffer takes.
+//! It stands on df_lang for points and faults and on df_family for the rows of the difference table.
+//! The crates above append them by its `put_` calls, and cite their texts, `row_text` and `fault_text`.
+#![tactic(auto)]
+
+mod fault_texts;
+mod table_texts;
+
+pub use fault_texts::put_source_fault;
+pub use table_texts::{put_table_row, row_text_is_short};

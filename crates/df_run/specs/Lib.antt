@@ -1,0 +1,5 @@
+pub mod Answers
+pub mod Endings
+pub mod Statuses
+pub mod Texts
+pub mod WordLists

@@ -1,0 +1,17 @@
+//! The top call: words and input to a text and a status.
+//! It stands on the crates of the language and of families for what an answer is, and on df_io for bytes.
+//! The program calls `run`; its clause says for each end what was read and what was written.
+#![tactic(auto)]
+
+mod lines;
+mod status;
+mod texts;
+mod top;
+mod words;
+
+pub use status::Status;
+pub use top::run;
+pub use words::{Command, UsageFault, read_words};
+
+#[cfg(test)]
+mod tests;
