@@ -1,11 +1,11 @@
 -- First occurrences among the translates of a block.
-use Rattle.std.proofs.Common.{◌≡◌, ℕ, zero, suc, ◌+◌, ◌-◌, ◌<◌, ◌≤◌, Bool, true, false, cond, not, ◌&&◌, ◌||◌, List, [], ◌∷◌, map, filter, bytes_eq, refl, sym, ap, ◌∙◌, arith}
+use Rattle.std.proofs.Common.{◌≡◌, ℕ, zero, suc, ◌+◌, ◌-◌, ◌≤◌, Bool, true, false, cond, not, ◌&&◌, ◌||◌, List, [], ◌∷◌, map, filter, bytes_eq, refl, sym, ap, ◌∙◌, arith}
 use Rattle.std.specs.List.{range_with_len}
 use Rattle.std.proofs.lemmas.Slice.Eq.{bytes_eq-Decides}
 use Rattle.std.proofs.lemmas.Bool.Decides.{same_from_decides}
 use Rattle.df_lists.specs.LeastMembers.{any_below, is_least}
 use Rattle.df_lang.specs.Problems.{Stated}
-use Rattle.df_family.specs.Translates.{elements, translate, same_translate}
+use Rattle.df_family.specs.Translates.{translate, same_translate}
 use Rattle.df_family.specs.Developments.{first_occurrences}
 use Rattle.df_family.specs.FamilyLaws.{OccurrenceLaw}
 use Rattle.df_group.specs.Elements.{order_of}
