@@ -1,20 +1,15 @@
 -- Why the table is as stated exactly where the development is balanced.
-use Rattle.std.proofs.Common.{◌≡◌, ℕ, zero, suc, ◌+◌, ◌*◌, ◌<◌, Bool, true, false, not, List, [], ◌∷◌, map, filter, refl, sym, ap, ◌∙◌, subst, inl, inr, arith, Option, None, Some, find, length, eqb}
+use Rattle.std.proofs.Common.{◌≡◌, ℕ, suc, ◌<◌, List, [], ◌∷◌, refl, sym, ap, ◌∙◌, subst, arith}
 use Rattle.std.specs.List.{All}
-use Rattle.df_lists.specs.Membership.{In}
 use Rattle.df_lists.specs.NumberSets.{IsSet}
 use Rattle.df_lists.proofs.CountLaws.{cb, sb, cb_is, sb_is, cb_flat_map}
-use Rattle.df_lists.proofs.MemberLaws.{In-map}
-use Rattle.df_group.specs.Elements.{order_of, group_of, IsGroup}
+use Rattle.df_group.specs.Elements.{group_of, IsGroup}
 use Rattle.df_group.proofs.ElementLaws.{is_group}
 use Rattle.df_lang.specs.declared.parts.Member.{Member}
-use Rattle.df_lang.specs.Problems.{Stated, IsStated, IsBlock, point_count}
-use Rattle.df_lang.specs.Targets.{target}
-use Rattle.df_lang.specs.Balance.{holds, cover, IsBalanced}
-use Rattle.df_family.specs.declared.table.Row.{Row}
-use Rattle.df_family.specs.Translates.{stabilizer}
+use Rattle.df_lang.specs.Problems.{Stated, IsBlock, point_count}
+use Rattle.df_lang.specs.Balance.{holds, cover}
 use Rattle.df_family.specs.Developments.{translates, develop}
-use Rattle.df_family.specs.Tables.{rows, occurs, summand, found, stated}
+use Rattle.df_family.specs.Tables.{occurs, summand, found, stated}
 use Rattle.df_family.specs.FamilyLaws.{BalanceLaw, DivisionLaw, LengthLaw, PreimageLaw}
 use Rattle.df_family.proofs.TranslateLaws.{hit}
 use Rattle.df_family.proofs.CoverLaws.{kind, firsts, covers_kind, covers_firsts, member_covers, translates_length}

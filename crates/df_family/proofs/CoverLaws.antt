@@ -1,5 +1,5 @@
 -- How many translates of a block hold two points.
-use Rattle.std.proofs.Common.{◌≡◌, ℕ, zero, suc, ◌+◌, ◌-◌, ◌*◌, ◌/◌, ◌<◌, ◌≤◌, Bool, true, false, cond, eqb, nat_lt, ◌&&◌, List, [], ◌∷◌, filter, map, length, refl, sym, ap, ◌∙◌, inl, inr, arith, lt-ltb, le-ltb, mul_comm, mul-div_cancel, count_by, sum_by}
+use Rattle.std.proofs.Common.{◌≡◌, ℕ, zero, suc, ◌+◌, ◌-◌, ◌*◌, ◌/◌, ◌<◌, ◌≤◌, Bool, true, false, cond, eqb, nat_lt, ◌&&◌, List, [], ◌∷◌, filter, map, length, refl, sym, ap, ◌∙◌, inl, inr, arith, lt-ltb, le-ltb, mul_comm, mul-div_cancel, count_by}
 use Rattle.std.specs.List.{range_with_len}
 use Rattle.std.proofs.lemmas.Slice.Eq.{bytes_eq-Decides}
 use Rattle.std.proofs.lemmas.Bool.{cases_lt}
@@ -13,14 +13,12 @@ use Rattle.df_group.specs.Elements.{order_of, group_of, IsGroup, minus}
 use Rattle.df_group.proofs.GroupLaws.{far, same_test, turns_minus}
 use Rattle.df_lang.specs.declared.parts.Kind.{Kind}
 use Rattle.df_lang.specs.declared.parts.Kind.TheVariants as kinds
-use Rattle.df_lang.specs.declared.parts.Member.{Member}
 use Rattle.df_lang.specs.Problems.{Stated, point_count}
-use Rattle.df_lang.specs.Targets.{is_finite}
 use Rattle.df_lang.specs.Balance.{holds}
 use Rattle.df_family.specs.declared.table.Row.{Row}
 use Rattle.df_family.specs.declared.table.Row.TheVariants.{Diff, WithFixed, TwoFixed}
-use Rattle.df_family.specs.Translates.{elements, shifted, translate, same_translate, stabilizer}
-use Rattle.df_family.specs.Developments.{is_listed, shifts, translates}
+use Rattle.df_family.specs.Translates.{elements, translate, same_translate, stabilizer}
+use Rattle.df_family.specs.Developments.{is_listed, translates}
 use Rattle.df_family.specs.Tables.{fixed_point, finite_points, occurs, summand_of}
 use Rattle.df_family.proofs.TranslateLaws.{shifted_finite, shifted_fixed, hit, sameness, class_size, stabilizer_some}
 

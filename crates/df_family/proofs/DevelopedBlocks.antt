@@ -1,6 +1,6 @@
 -- The blocks of a development are blocks of the problem: translates have the points' range and the number of points of their block.
-use Rattle.std.proofs.Common.{◌≡◌, ℕ, zero, suc, ◌+◌, ◌<◌, ◌≤◌, Bool, true, false, ◌||◌, eqb, List, [], ◌∷◌, map, filter, length, All, refl, sym, ap, ◌∙◌, subst, arith}
-use Rattle.std.specs.List.{range_with_len, flat_map, count_by}
+use Rattle.std.proofs.Common.{◌≡◌, ℕ, ◌≤◌, Bool, true, false, ◌||◌, eqb, List, [], ◌∷◌, map, filter, length, All, refl, sym, ap, ◌∙◌, arith}
+use Rattle.std.specs.List.{range_with_len}
 use Rattle.std.proofs.lemmas.List.Elements.{All-head, All-tail, All-map, All-weaker}
 use Rattle.std.proofs.lemmas.List.Sums.{length-filter}
 use Rattle.std.proofs.lemmas.Bool.{eqb-true}
@@ -8,12 +8,12 @@ use Rattle.df_lists.specs.NumberSets.{has_member, IsSet}
 use Rattle.df_lists.specs.Totals.{total, one}
 use Rattle.df_lists.proofs.TotalLaws.{total_same, total_turn}
 use Rattle.df_lists.proofs.CountLaws.{cb_is, cb_range, has_filter, filter_same}
-use Rattle.df_group.specs.Elements.{order_of, group_of, IsGroup}
+use Rattle.df_group.specs.Elements.{group_of, IsGroup}
 use Rattle.df_group.proofs.ElementLaws.{is_group}
 use Rattle.df_lang.specs.declared.parts.Member.{Member}
 use Rattle.df_lang.specs.Problems.{Stated, IsStated, IsBlock, IsSize, point_count}
-use Rattle.df_family.specs.Translates.{shifted, translate, elements}
-use Rattle.df_family.specs.Developments.{shifts, translates, develop, is_listed}
+use Rattle.df_family.specs.Translates.{shifted, translate}
+use Rattle.df_family.specs.Developments.{shifts, translates, develop}
 use Rattle.df_family.proofs.TranslateLaws.{hit, shifted_within, there_and_back, back_and_there}
 use Rattle.df_family.proofs.TableRows.{All-flat_map}
 

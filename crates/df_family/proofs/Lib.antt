@@ -9,3 +9,4 @@ pub mod RemainderLaws
 pub mod TallyLaws
 pub mod TableLaws
 pub mod VerdictLaws
+pub mod OccurrenceLaws

@@ -1,5 +1,5 @@
 -- The rows of the table are the kinds of pairs of points.
-use Rattle.std.proofs.Common.{◌≡◌, ℕ, zero, suc, ◌+◌, ◌-◌, ◌<◌, ◌≤◌, Bool, true, false, cond, nat_lt, ◌&&◌, List, [], ◌∷◌, ◌++◌, map, refl, sym, ap, ◌∙◌, subst, ◌⊎◌, inl, inr, arith, lt-ltb, le-ltb, Option, None, Some}
+use Rattle.std.proofs.Common.{◌≡◌, ℕ, zero, suc, ◌+◌, ◌-◌, ◌<◌, ◌≤◌, cond, List, [], ◌∷◌, ◌++◌, map, refl, sym, ap, ◌∙◌, subst, inl, inr, arith, lt-ltb, le-ltb, Option, None, Some}
 use Rattle.std.specs.List.{range_with_len, flat_map}
 use Rattle.std.proofs.lemmas.Bool.{cases_lt}
 use Rattle.df_lists.specs.Membership.{In}
@@ -9,7 +9,7 @@ use Rattle.df_group.specs.Elements.{order_of, group_of, IsGroup, minus}
 use Rattle.df_group.proofs.GroupLaws.{less_more, minus_zero}
 use Rattle.df_lang.specs.declared.parts.Inside.{Inside}
 use Rattle.df_lang.specs.Problems.{Stated, point_count}
-use Rattle.df_lang.specs.Targets.{is_finite, subgroup_at, finite_target, target}
+use Rattle.df_lang.specs.Targets.{subgroup_at, finite_target, target}
 use Rattle.df_family.specs.declared.table.Row.{Row}
 use Rattle.df_family.specs.declared.table.Row.TheVariants.{Diff, WithFixed, TwoFixed}
 use Rattle.df_family.specs.Tables.{fixed_point, differences, singles, pairs, rows, stated}

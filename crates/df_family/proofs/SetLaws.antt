@@ -1,6 +1,6 @@
 -- Sets of numbers that grow by one number.
 use Rattle.std.proofs.Common.{◌≡◌, ◌≢◌, ℕ, zero, suc, ◌+◌, ◌<◌, ◌≤◌, Bool, true, false, cond, ◌||◌, eqb, ltb, List, [], ◌∷◌, ◌++◌, map, filter, take, get_or, length, refl, sym, ap, ◌∙◌, arith, tests, append-nil, eq-eqb, ne_eqb}
-use Rattle.std.specs.List.{range_with_len, list_any}
+use Rattle.std.specs.List.{range_with_len}
 use Rattle.std.proofs.lemmas.List.{map_more}
 use Rattle.df_lists.specs.NumberSets.{has_member, set_of, with_member}
 use Rattle.df_lists.specs.BitLaws.{placed, filter_more}

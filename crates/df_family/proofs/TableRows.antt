@@ -1,10 +1,9 @@
 -- The rows of a table are rows of its problem.
-use Rattle.std.proofs.Common.{◌≡◌, ℕ, zero, suc, ◌+◌, ◌-◌, ◌<◌, ◌≤◌, Bool, true, false, cond, List, [], ◌∷◌, map, find, All, Option, None, Some, refl, sym, ap, ◌∙◌, subst, arith}
+use Rattle.std.proofs.Common.{◌≡◌, ℕ, zero, suc, ◌+◌, ◌-◌, ◌<◌, ◌≤◌, Bool, true, false, cond, List, [], ◌∷◌, map, find, All, Option, None, Some, refl, subst, arith}
 use Rattle.std.specs.List.{range_with_len, flat_map}
 use Rattle.std.proofs.lemmas.List.Elements.{All-nil, All-cons, All-head, All-tail, All-append, All-map, All-weaker}
 use Rattle.df_group.specs.Elements.{order_of}
 use Rattle.df_lang.specs.Problems.{Stated}
-use Rattle.df_family.specs.declared.table.Row.{Row}
 use Rattle.df_family.specs.declared.table.Row.TheVariants.{Diff, WithFixed, TwoFixed}
 use Rattle.df_family.specs.declared.table.Entry.{Entry}
 use Rattle.df_family.specs.Tables.{IsRow, IsFixed, rows, differences, singles, pairs, table, entry, is_wrong}

@@ -1,5 +1,5 @@
 -- The numbers of rows while they are counted.
-use Rattle.std.proofs.Common.{◌≡◌, ℕ, zero, suc, ◌+◌, ◌-◌, ◌*◌, ◌/◌, ◌%◌, ◌^◌, ◌<◌, ◌≤◌, Bool, true, false, cond, eqb, eqb-true, ◌&&◌, List, [], ◌∷◌, filter, length, get_or, take, All, sum_by, count_by, refl, sym, ap, ◌∙◌, arith, inl, inr}
+use Rattle.std.proofs.Common.{◌≡◌, ℕ, zero, suc, ◌+◌, ◌-◌, ◌*◌, ◌/◌, ◌%◌, ◌<◌, ◌≤◌, Bool, true, false, cond, eqb, eqb-true, ◌&&◌, List, [], ◌∷◌, length, get_or, sum_by, count_by, refl, ap, ◌∙◌, arith}
 use Rattle.std.proofs.lemmas.List.Sums.{count_by-le-length}
 use Rattle.std.proofs.Math.Nat.{div-le_self}
 use Rattle.df_lists.specs.NumberSets.{has_member}
@@ -8,7 +8,6 @@ use Rattle.df_group.specs.Elements.{order_of, group_of, minus}
 use Rattle.df_lang.specs.declared.parts.Kind.{Kind}
 use Rattle.df_lang.specs.declared.parts.Kind.TheVariants as kinds
 use Rattle.df_lang.specs.Problems.{Stated}
-use Rattle.df_lang.specs.Targets.{is_finite}
 use Rattle.df_lang.specs.Balance.{holds}
 use Rattle.df_family.specs.declared.table.Row.{Row}
 use Rattle.df_family.specs.declared.table.Row.TheVariants.{Diff, WithFixed, TwoFixed}

@@ -1,5 +1,5 @@
 -- The development of a family: the translates of its blocks.
-use Rattle.std.specs.Prelude.{ℕ, Bool, true, List, map, filter}
+use Rattle.std.specs.Prelude.{ℕ, Bool, true, not, List, [], ◌∷◌, map, filter, bytes_eq}
 use Rattle.std.specs.List.{flat_map}
 use Rattle.df_lists.specs.LeastMembers.{is_least}
 use Rattle.df_lang.specs.declared.parts.Kind.{Kind}
@@ -12,6 +12,11 @@ use Rattle.df_family.specs.Translates.{elements, translate, same_translate}
 abbrev pub is_listed : Stated → Kind → List ℕ → ℕ → Bool
 is_listed s kinds.Base block g = true
 is_listed s kinds.Short block g = is_least (same_translate s block) g
+
+-- a list of blocks, of which each stays only where it first occurs
+abbrev pub first_occurrences : List (List ℕ) → List (List ℕ)
+first_occurrences [] = []
+first_occurrences (b ∷ bs) = b ∷ filter (λ c. not (bytes_eq c b)) (first_occurrences bs)
 
 -- the elements by which a member of the family is translated, in order
 abbrev pub shifts : Stated → Member → List ℕ

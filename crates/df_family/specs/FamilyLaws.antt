@@ -1,16 +1,14 @@
 -- The laws of difference families.
-use Rattle.std.specs.Prelude.{◌≡◌, ◌↔◌, ℕ, ◌+◌, ◌*◌, ◌/◌, ◌%◌, ◌<◌, Bool, true, List, filter, length}
-use Rattle.std.specs.List.{range_with_len}
+use Rattle.std.specs.Prelude.{◌≡◌, ◌↔◌, ℕ, ◌*◌, ◌<◌, true, List, map, length}
 use Rattle.df_lists.specs.Membership.{In}
 use Rattle.df_lists.specs.NumberSets.{has_member, IsSet}
-use Rattle.df_group.specs.Elements.{order_of, group_of, minus}
+use Rattle.df_group.specs.Elements.{order_of, group_of}
 use Rattle.df_lang.specs.declared.parts.Kind.TheVariants as kinds
-use Rattle.df_lang.specs.declared.parts.Member.{Member}
 use Rattle.df_lang.specs.Problems.{Stated, IsStated, point_count}
 use Rattle.df_lang.specs.Balance.{IsBalanced}
 use Rattle.df_family.specs.declared.table.Row.{Row}
-use Rattle.df_family.specs.Translates.{shifted, translate, stabilizer}
-use Rattle.df_family.specs.Developments.{translates, develop}
+use Rattle.df_family.specs.Translates.{elements, shifted, translate, stabilizer}
+use Rattle.df_family.specs.Developments.{first_occurrences, translates, develop}
 use Rattle.df_family.specs.Tables.{rows, occurs, IsAsStated}
 use Rattle.df_family.specs.Verdicts.{verdict_on, is_accepted}
 
@@ -30,6 +28,10 @@ DivisionLaw = (s : Stated) → IsStated s → (block : List ℕ) → IsSet (poin
 abbrev pub LengthLaw : Type 0
 LengthLaw = (s : Stated) → IsStated s → (block : List ℕ) → IsSet (point_count s) block
     → order_of s.group ≡ stabilizer s block * length (translates s record { kind = kinds.Short; block = block })
+
+-- of all translates of a short block only the first occurrence of each stays
+abbrev pub OccurrenceLaw : Type 0
+OccurrenceLaw = (s : Stated) (block : List ℕ) → translates s record { kind = kinds.Short; block = block } ≡ first_occurrences (map (translate s block) (elements s))
 
 -- block + g holds a point exactly where the block holds the point that -g carries it to
 abbrev pub PreimageLaw : Type 0

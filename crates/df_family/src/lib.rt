@@ -13,8 +13,8 @@ mod verdict;
 
 pub use develop::Develop;
 pub use laws::{
-    division_leaves_no_rest, table_tells_balance, translates_divide_the_order,
-    translates_hold_preimages,
+    division_leaves_no_rest, short_blocks_keep_first_occurrences, table_tells_balance,
+    translates_divide_the_order, translates_hold_preimages, verdict_tells_balance,
 };
 pub use table::{Row, Table, difference_table};
 pub use translate::stabilizer;

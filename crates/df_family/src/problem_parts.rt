@@ -47,7 +47,11 @@ pub fn member_at(problem: &Problem, place: usize) -> Option<Member>
     ensures within { IfSome result (λ _. place < length problem.now.family) }
     ensures rules { IsStated problem.now }
 {
-    if place < problem.family.len() { Some(problem.family[place]) } else { None }
+    if place < problem.family.len() {
+        Some(problem.family[place])
+    } else {
+        None
+    }
 }
 
 /// The number of fixed points.

@@ -7,7 +7,6 @@ ghost use Rattle.df_family.specs.Tables.{differences, singles, pairs, pairs_of, 
 ghost use Rattle.df_family.specs.Tallies.{HasNumber, IsTallyOf};
 
 use crate::OutOfMemory;
-
 use crate::problem_parts::{fixed, fixed_point, order};
 use crate::tally::Tally;
 use df_group::Elem;
@@ -116,22 +115,44 @@ fn tally_of(problem: &Problem) -> Tally
     tally
 }
 
-fn push_differences(entries: &mut Vec<Entry>, problem: &Problem, tally: &Tally) -> Result<(), OutOfMemory>
+fn push_differences(
+    entries: &mut Vec<Entry>,
+    problem: &Problem,
+    tally: &Tally,
+) -> Result<(), OutOfMemory>
     requires { IsTallyOf problem.now tally.now }
     ensures { OnOk result (entries.new.items ≡ entries.old.items ++ map (entry problem.now) (differences problem.now)) }
 {
     for d in 1..order(problem) {
-        push_row(entries, problem, tally, &Row::Diff(Elem(d)), Point(0), Point(d))?;
+        push_row(
+            entries,
+            problem,
+            tally,
+            &Row::Diff(Elem(d)),
+            Point(0),
+            Point(d),
+        )?;
     }
     Ok(())
 }
 
-fn push_singles(entries: &mut Vec<Entry>, problem: &Problem, tally: &Tally) -> Result<(), OutOfMemory>
+fn push_singles(
+    entries: &mut Vec<Entry>,
+    problem: &Problem,
+    tally: &Tally,
+) -> Result<(), OutOfMemory>
     requires { IsTallyOf problem.now tally.now }
     ensures { OnOk result (entries.new.items ≡ entries.old.items ++ map (entry problem.now) (singles problem.now)) }
 {
     for i in 1..fixed(problem) + 1 {
-        push_row(entries, problem, tally, &Row::WithFixed(i), Point(0), fixed_point(problem, i))?;
+        push_row(
+            entries,
+            problem,
+            tally,
+            &Row::WithFixed(i),
+            Point(0),
+            fixed_point(problem, i),
+        )?;
     }
     Ok(())
 }
@@ -147,7 +168,12 @@ fn push_pairs(entries: &mut Vec<Entry>, problem: &Problem, tally: &Tally) -> Res
 }
 
 // The rows of this fixed point and a later one.
-fn push_pairs_of(entries: &mut Vec<Entry>, problem: &Problem, tally: &Tally, i: u8) -> Result<(), OutOfMemory>
+fn push_pairs_of(
+    entries: &mut Vec<Entry>,
+    problem: &Problem,
+    tally: &Tally,
+    i: u8,
+) -> Result<(), OutOfMemory>
     requires tally { IsTallyOf problem.now tally.now }
     requires some { 0 < i }
     requires fixed { i ≤ problem.now.fixed }
@@ -156,13 +182,27 @@ fn push_pairs_of(entries: &mut Vec<Entry>, problem: &Problem, tally: &Tally, i: 
 {
     let first = fixed_point(problem, i);
     for j in i + 1..fixed(problem) + 1 {
-        push_row(entries, problem, tally, &Row::TwoFixed(i, j), first, fixed_point(problem, j))?;
+        push_row(
+            entries,
+            problem,
+            tally,
+            &Row::TwoFixed(i, j),
+            first,
+            fixed_point(problem, j),
+        )?;
     }
     Ok(())
 }
 
 // A row, and a pair of points of that kind.
-fn push_row(entries: &mut Vec<Entry>, problem: &Problem, tally: &Tally, row: &Row, p: Point, q: Point) -> Result<(), OutOfMemory>
+fn push_row(
+    entries: &mut Vec<Entry>,
+    problem: &Problem,
+    tally: &Tally,
+    row: &Row,
+    p: Point,
+    q: Point,
+) -> Result<(), OutOfMemory>
     requires tally { IsTallyOf problem.now tally.now }
     requires number { HasNumber problem.now row.now }
     requires apart { p ≢ q }

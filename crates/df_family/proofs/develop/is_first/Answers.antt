@@ -1,4 +1,4 @@
-use Rattle.std.proofs.Common.{◌≡◌, ℕ, ◌<◌, true, not, ap, sym, ◌∙◌, arith}
+use Rattle.std.proofs.Common.{◌≡◌, ℕ, true, not, ap, sym, ◌∙◌, arith}
 use Rattle.df_lists.specs.NumberSets.{has_member}
 use Rattle.df_lists.proofs.LeastLaws.{any_from}
 use Rattle.df_group.specs.Elements.{group_of, minus}

@@ -1,4 +1,4 @@
-use Rattle.std.proofs.Common.{◌≡◌, ◌<◌, true, false, ap, sym, ◌∙◌, arith}
+use Rattle.std.proofs.Common.{sym, ◌∙◌, arith}
 use Rattle.df_group.specs.Elements.{order_of}
 use Rattle.df_family.specs.Developments.{is_listed}
 use Rattle.df_family.proofs.RemainderLaws.{find_here, find_on}

@@ -1,4 +1,4 @@
-use Rattle.std.proofs.Common.{ℕ, ◌+◌, ◌<◌, List, length, get_or, All, ap, sym, subst, arith}
+use Rattle.std.proofs.Common.{ℕ, ◌+◌, ◌<◌, List, All, ap, sym, subst, arith}
 use Rattle.df_lists.specs.NumberSets.{IsSet}
 use Rattle.df_group.specs.Elements.{order_of}
 use Rattle.df_lang.specs.declared.parts.Member.{Member}

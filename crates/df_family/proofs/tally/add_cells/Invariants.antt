@@ -1,4 +1,4 @@
-use Rattle.std.proofs.Common.{◌≡◌, ℕ, ◌+◌, ◌/◌, ◌<◌, ◌≤◌, get_or, cond, nat_lt}
+use Rattle.std.proofs.Common.{◌≡◌, ℕ, ◌+◌, ◌/◌, ◌<◌, get_or, cond, nat_lt}
 use Rattle.df_family.proofs.tally.add_cells.Given as goal
 
 abbrev pub invariant-loop-c : goal.invariant-loop-c

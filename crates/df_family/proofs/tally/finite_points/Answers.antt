@@ -1,4 +1,4 @@
-use Rattle.std.proofs.Common.{ℕ, ◌<◌, List, length, get_or, take, ap, arith, ltb-true}
+use Rattle.std.proofs.Common.{ℕ, List, length, get_or, take, ap, arith, ltb-true}
 use Rattle.df_lang.specs.Targets.{is_finite}
 use Rattle.df_group.specs.Elements.{order_of}
 use Rattle.df_family.proofs.RemainderLaws.{picks_pass}

@@ -1,4 +1,4 @@
-use Rattle.std.proofs.Common.{◌≡◌, true, false, ap, sym, ◌∙◌, bytes_eq}
+use Rattle.std.proofs.Common.{◌≡◌, ap, sym, ◌∙◌, bytes_eq}
 use Rattle.df_lists.specs.NumberSets.{with_member}
 use Rattle.df_family.specs.Translates.{fixes}
 use Rattle.df_family.proofs.SetLaws.{picked, passed_over}

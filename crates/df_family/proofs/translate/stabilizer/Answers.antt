@@ -1,4 +1,4 @@
-use Rattle.std.proofs.Common.{◌≡◌, ◌≤◌, ap, length, count_by, ◌∙◌, arith}
+use Rattle.std.proofs.Common.{ap, length, ◌∙◌, arith}
 use Rattle.std.proofs.lemmas.List.Sums.{length-filter, count_by-le-length}
 use Rattle.std.proofs.lemmas.List.FromFn.{length-range_with_len}
 use Rattle.df_group.specs.Elements.{order_of}

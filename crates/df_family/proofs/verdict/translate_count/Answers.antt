@@ -1,11 +1,10 @@
-use Rattle.std.proofs.Common.{◌≡◌, ◌<◌, ◌*◌, ◌/◌, ℕ, List, [], ◌∷◌, true, filter, length, map, refl, ap, sym, ◌∙◌, arith, mul_comm, mul-div_cancel}
+use Rattle.std.proofs.Common.{◌≡◌, ◌*◌, ◌/◌, ℕ, List, [], ◌∷◌, true, filter, length, map, refl, ap, sym, ◌∙◌, arith, mul_comm, mul-div_cancel}
 use Rattle.std.proofs.lemmas.List.FromFn.{length-range_with_len}
 use Rattle.std.proofs.lemmas.List.{length-map}
 use Rattle.df_group.specs.Elements.{order_of}
 use Rattle.df_group.proofs.ElementLaws.{is_group}
 use Rattle.df_lang.specs.declared.parts.Kind.{Kind}
 use Rattle.df_lang.specs.declared.parts.Kind.TheVariants as kinds
-use Rattle.df_lang.specs.declared.parts.Member.{Member}
 use Rattle.df_lang.specs.Problems.{point_count}
 use Rattle.df_family.specs.Translates.{elements, translate, stabilizer}
 use Rattle.df_family.specs.Developments.{translates}

@@ -1,8 +1,7 @@
-use Rattle.std.proofs.Common.{◌≡◌, List, find, position, Some, None, ap, sym, ◌∙◌}
+use Rattle.std.proofs.Common.{find, ap, sym, ◌∙◌}
 use Rattle.df_family.specs.declared.table.Row.TheVariants.{Diff}
-use Rattle.df_family.specs.declared.table.Entry.{Entry}
 use Rattle.df_family.specs.declared.verdict.Verdict.TheVariants.{Accepted, Refused}
-use Rattle.df_family.specs.Tables.{table, entry_at, is_wrong}
+use Rattle.df_family.specs.Tables.{entry_at, is_wrong}
 use Rattle.df_family.specs.Verdicts.{verdict_at}
 use Rattle.df_family.proofs.VerdictLaws.{none_first, found_first}
 use Rattle.df_family.proofs.verdict.verdict_by.Goals as goal

@@ -1,11 +1,10 @@
-use Rattle.std.proofs.Common.{◌≡◌, ◌+◌, ◌-◌, ◌<◌, ◌≤◌, ◌∷◌, List, ℕ, Some, drop, length, ap, sym, ◌∙◌, subst, arith}
+use Rattle.std.proofs.Common.{◌+◌, ◌-◌, ◌∷◌, List, ℕ, drop, ap, sym, ◌∙◌, subst, arith}
 use Rattle.std.specs.List.{range_with_len}
 use Rattle.df_group.specs.Elements.{order_of}
 use Rattle.df_lang.specs.declared.parts.Member.{Member}
-use Rattle.df_family.specs.Translates.{translate}
 use Rattle.df_family.specs.Developments.{is_listed}
-use Rattle.df_family.specs.Remainders.{left_from, IsListedOf, IsFixingOf}
-use Rattle.df_family.proofs.RemainderLaws.{found, none_found, left_later, left_last, listed_at_start}
+use Rattle.df_family.specs.Remainders.{left_from, IsListedOf}
+use Rattle.df_family.proofs.RemainderLaws.{found, none_found, left_later, left_last}
 use Rattle.df_family.proofs.develop.Develop.next.Goals as goal
 use Rattle.df_family.proofs.develop.Develop.next.Goals.{in-Some, in-None}
 

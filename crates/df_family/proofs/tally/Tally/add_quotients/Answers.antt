@@ -1,4 +1,4 @@
-use Rattle.std.proofs.Common.{◌≡◌, ◌<◌, ◌*◌, ap, arith, ◌^◌}
+use Rattle.std.proofs.Common.{ap, arith, ◌^◌}
 use Rattle.df_lang.specs.Problems.{Stated}
 use Rattle.df_family.specs.declared.table.Row.TheVariants.{Diff}
 use Rattle.df_family.specs.declared.tally.Tally.{Tally}

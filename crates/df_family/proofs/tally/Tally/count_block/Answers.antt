@@ -1,4 +1,4 @@
-use Rattle.std.proofs.Common.{◌≡◌, ◌≤◌, ◌+◌, ◌==◌, ℕ, List, length, get_or, cond, sum_by, count_by, ap, sym, ◌∙◌, arith, ◌^◌}
+use Rattle.std.proofs.Common.{◌≡◌, ◌+◌, ◌==◌, ℕ, List, length, get_or, cond, sum_by, count_by, ap, ◌∙◌, arith, ◌^◌}
 use Rattle.df_lists.specs.NumberSets.{has_member}
 use Rattle.df_group.specs.Elements.{order_of, group_of, minus}
 use Rattle.df_family.specs.declared.table.Row.TheVariants.{Diff}

@@ -1,4 +1,4 @@
-use Rattle.std.proofs.Common.{◌≡◌, ◌≤◌, ◌+◌, ◌/◌, ℕ, ap, sym, ◌∙◌, arith}
+use Rattle.std.proofs.Common.{◌≡◌, ◌+◌, ◌/◌, ap, sym, ◌∙◌, arith}
 use Rattle.df_lang.specs.declared.parts.Kind.{Kind}
 use Rattle.df_family.specs.Translates.{stabilizer}
 use Rattle.df_family.specs.Tables.{occurs, summand_of}
