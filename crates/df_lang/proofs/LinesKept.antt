@@ -66,10 +66,20 @@ module _ (v : ℕ) (b : Above) (tokens : List (List ℕ)) (is : IsVersion v) whe
       subst Keeps same record {
         head = record { version_stated = refl; group_stated = refl; version_is = is; shape = shape; few_fixed = omega arith; points = omega arith };
         names = record { each = λ i d l. absurd (omega arith); apart = λ i j d l m. absurd (omega arith) };
-        shift = tt; mults = tt; sizes = tt; lambda = tt; inside = tt; hole = tt;
+        shift = tt;
+        mults = tt;
+        sizes = tt;
+        lambda = tt;
+        inside = tt;
+        hole = tt;
         blocks = record {
-          family = λ i d l. absurd (omega arith); few = omega arith; required = λ i d l. absurd (omega arith); forbidden = λ i d l. absurd (omega arith); few_stated = omega arith;
-          none_required = λ _. refl; none_forbidden = λ _. refl;
+          family = λ i d l. absurd (omega arith);
+          few = omega arith;
+          required = λ i d l. absurd (omega arith);
+          forbidden = λ i d l. absurd (omega arith);
+          few_stated = omega arith;
+          none_required = λ _. refl;
+          none_forbidden = λ _. refl;
         };
       }
 
@@ -148,8 +158,19 @@ target_or n None low is = low
 target_or n (Some m) low is = is
 
 pub whole_kept : (a : Above) (ks : List ℕ) (n : ℕ) → Keeps a → a.sizes ≡ Some ks → a.lambda ≡ Some n → length a.names < 2 ^ 32 → IsStated record {
-  version = version_of a; group = shape_above a; fixed = fixed_of a; names = a.names; shift = unwrap_or a.shift which.All; mults = unwrap_or a.mults []; sizes = ks; lambda = n;
-  inside = a.inside; hole = unwrap_or a.hole n; family = a.family; required = a.required; forbidden = a.forbidden;
+  version = version_of a;
+  group = shape_above a;
+  fixed = fixed_of a;
+  names = a.names;
+  shift = unwrap_or a.shift which.All;
+  mults = unwrap_or a.mults [];
+  sizes = ks;
+  lambda = n;
+  inside = a.inside;
+  hole = unwrap_or a.hole n;
+  family = a.family;
+  required = a.required;
+  forbidden = a.forbidden;
 }
 whole_kept a ks n k sized targeted few =
     let sizes = subst (λ o. IfSome o (SizesKept (version_of a) (points_above a))) sized k.sizes in
@@ -158,13 +179,27 @@ whole_kept a ks n k sized targeted few =
     let blocks = subst (λ ls. BlocksKept (version_of a) (points_above a) ls a.family a.required a.forbidden) same k.blocks in
     let mults = mults_or_none (shape_above a) a.mults k.mults in
     record {
-      version = k.head.version_is; shape = k.head.shape; fixed = k.head.few_fixed; points = k.head.points;
-      names = k.names.each; apart = k.names.apart; few_names = few;
+      version = k.head.version_is;
+      shape = k.head.shape;
+      fixed = k.head.few_fixed;
+      points = k.head.points;
+      names = k.names.each;
+      apart = k.names.apart;
+      few_names = few;
       shift = word_or_all a.names a.shift k.shift;
-      mults = mults.each; mults_once = mults.once;
-      some_size = sizes.some; sizes = sizes.each; sizes_rise = sizes.rise;
-      lambda = lambda; inside = k.inside; hole = target_or n a.hole lambda k.hole;
-      family = blocks.family; few_blocks = blocks.few; required = blocks.required; forbidden = blocks.forbidden; few_stated = blocks.few_stated;
+      mults = mults.each;
+      mults_once = mults.once;
+      some_size = sizes.some;
+      sizes = sizes.each;
+      sizes_rise = sizes.rise;
+      lambda = lambda;
+      inside = k.inside;
+      hole = target_or n a.hole lambda k.hole;
+      family = blocks.family;
+      few_blocks = blocks.few;
+      required = blocks.required;
+      forbidden = blocks.forbidden;
+      few_stated = blocks.few_stated;
       first_version = λ first. record { sizes = sizes.one first; required = blocks.none_required first; forbidden = blocks.none_forbidden first };
     }
 

@@ -102,9 +102,13 @@ module _ (a b : Above) (tokens : List (List ℕ)) (k : Keeps a) where
       let is : record a { fixed = Some n.0 } ≡ b = cc in
       subst Keeps is record {
         head = record { version_stated = head.version_stated; group_stated = head.group_stated; version_is = head.version_is; shape = head.shape; few_fixed = omega (arith, range.1); points = omega (arith, range.1, same, small) };
-        names = k.names; shift = k.shift; mults = k.mults;
+        names = k.names;
+        shift = k.shift;
+        mults = k.mults;
         sizes = sizes_wider (version_of a) (points_above a) (order_of (shape_above a) + n.0) a.sizes wide k.sizes;
-        lambda = k.lambda; inside = k.inside; hole = k.hole;
+        lambda = k.lambda;
+        inside = k.inside;
+        hole = k.hole;
         blocks = blocks_wider (version_of a) (points_above a) (order_of (shape_above a) + n.0) (sizes_above a) a.family a.required a.forbidden wide k.blocks;
       }
 
@@ -123,8 +127,13 @@ module _ (a b : Above) (tokens : List (List ℕ)) (k : Keeps a) where
           each = All-push (IsNamed (shape_above a)) a.names n.0 k.names.each named;
           apart = all_pairs_push DifferInName a.names n.0 k.names.apart (λ i d l. not_placed a.names n.0.0 new.1 i d l);
         };
-        shift = shift_wider a.names n.0 a.shift k.shift; mults = k.mults; sizes = k.sizes; lambda = k.lambda;
-        inside = inside_wider a.names n.0 a.inside k.inside; hole = k.hole; blocks = k.blocks;
+        shift = shift_wider a.names n.0 a.shift k.shift;
+        mults = k.mults;
+        sizes = k.sizes;
+        lambda = k.lambda;
+        inside = inside_wider a.names n.0 a.inside k.inside;
+        hole = k.hole;
+        blocks = k.blocks;
       }
 
   pub shift_line_kept : shift_line a tokens ≡ Ok b → Keeps b
@@ -134,7 +143,15 @@ module _ (a b : Above) (tokens : List (List ℕ)) (k : Keeps a) where
       let w = bind_kept (shift_of a.names tokens) (λ w. Ok (record a { shift = Some w })) b g.3 in
       let is : record a { shift = Some w.0 } ≡ b = cc in
       subst Keeps is record {
-        head = k.head; names = k.names; shift = shift_kept a.names tokens w.0 w.1; mults = k.mults; sizes = k.sizes; lambda = k.lambda; inside = k.inside; hole = k.hole; blocks = k.blocks;
+        head = k.head;
+        names = k.names;
+        shift = shift_kept a.names tokens w.0 w.1;
+        mults = k.mults;
+        sizes = k.sizes;
+        lambda = k.lambda;
+        inside = k.inside;
+        hole = k.hole;
+        blocks = k.blocks;
       }
 
   pub mult_line_kept : mult_line a tokens ≡ Ok b → Keeps b
@@ -147,7 +164,15 @@ module _ (a b : Above) (tokens : List (List ℕ)) (k : Keeps a) where
       let kept = subst (λ gs. MultsKept gs ms.0) (sym (shape_is a g.0 g.2)) (mults_kept g.0 tokens ms.0 some ms.1) in
       let is : record a { mults = Some ms.0 } ≡ b = cc in
       subst Keeps is record {
-        head = k.head; names = k.names; shift = k.shift; mults = kept; sizes = k.sizes; lambda = k.lambda; inside = k.inside; hole = k.hole; blocks = k.blocks;
+        head = k.head;
+        names = k.names;
+        shift = k.shift;
+        mults = kept;
+        sizes = k.sizes;
+        lambda = k.lambda;
+        inside = k.inside;
+        hole = k.hole;
+        blocks = k.blocks;
       }
 
   pub size_line_kept : size_line a tokens ≡ Ok b → Keeps b
@@ -161,7 +186,14 @@ module _ (a b : Above) (tokens : List (List ℕ)) (k : Keeps a) where
       let before = subst (λ ls. BlocksKept (version_of a) (points_above a) ls a.family a.required a.forbidden) none k.blocks in
       let is : record a { sizes = Some ks.0 } ≡ b = cc in
       subst Keeps is record {
-        head = k.head; names = k.names; shift = k.shift; mults = k.mults; sizes = kept; lambda = k.lambda; inside = k.inside; hole = k.hole;
+        head = k.head;
+        names = k.names;
+        shift = k.shift;
+        mults = k.mults;
+        sizes = kept;
+        lambda = k.lambda;
+        inside = k.inside;
+        hole = k.hole;
         blocks = blocks_sized (version_of a) (points_above a) ks.0 a.family a.required a.forbidden before;
       }
 
@@ -172,7 +204,15 @@ module _ (a b : Above) (tokens : List (List ℕ)) (k : Keeps a) where
       let n = bind_kept (one_number 0 2000000 TargetRange tokens) (λ n. Ok (record a { lambda = Some n })) b g.3 in
       let is : record a { lambda = Some n.0 } ≡ b = cc in
       subst Keeps is record {
-        head = k.head; names = k.names; shift = k.shift; mults = k.mults; sizes = k.sizes; lambda = (one_number_kept 0 2000000 TargetRange tokens n.0 n.1).1; inside = k.inside; hole = k.hole; blocks = k.blocks;
+        head = k.head;
+        names = k.names;
+        shift = k.shift;
+        mults = k.mults;
+        sizes = k.sizes;
+        lambda = (one_number_kept 0 2000000 TargetRange tokens n.0 n.1).1;
+        inside = k.inside;
+        hole = k.hole;
+        blocks = k.blocks;
       }
 
   pub inside_line_kept : inside_line a tokens ≡ Ok b → Keeps b
@@ -182,7 +222,15 @@ module _ (a b : Above) (tokens : List (List ℕ)) (k : Keeps a) where
       let i = bind_kept (inside_of a.names tokens) (λ i. Ok (record a { inside = Some i })) b g.3 in
       let is : record a { inside = Some i.0 } ≡ b = cc in
       subst Keeps is record {
-        head = k.head; names = k.names; shift = k.shift; mults = k.mults; sizes = k.sizes; lambda = k.lambda; inside = inside_kept a.names tokens i.0 i.1; hole = k.hole; blocks = k.blocks;
+        head = k.head;
+        names = k.names;
+        shift = k.shift;
+        mults = k.mults;
+        sizes = k.sizes;
+        lambda = k.lambda;
+        inside = inside_kept a.names tokens i.0 i.1;
+        hole = k.hole;
+        blocks = k.blocks;
       }
 
   pub hole_line_kept : hole_line a tokens ≡ Ok b → Keeps b
@@ -192,7 +240,15 @@ module _ (a b : Above) (tokens : List (List ℕ)) (k : Keeps a) where
       let n = bind_kept (one_number 0 2000000 TargetRange tokens) (λ n. Ok (record a { hole = Some n })) b g.3 in
       let is : record a { hole = Some n.0 } ≡ b = cc in
       subst Keeps is record {
-        head = k.head; names = k.names; shift = k.shift; mults = k.mults; sizes = k.sizes; lambda = k.lambda; inside = k.inside; hole = (one_number_kept 0 2000000 TargetRange tokens n.0 n.1).1; blocks = k.blocks;
+        head = k.head;
+        names = k.names;
+        shift = k.shift;
+        mults = k.mults;
+        sizes = k.sizes;
+        lambda = k.lambda;
+        inside = k.inside;
+        hole = (one_number_kept 0 2000000 TargetRange tokens n.0 n.1).1;
+        blocks = k.blocks;
       }
 
   -- a block, and how many of its kind stand above
@@ -218,11 +274,22 @@ module _ (a b : Above) (tokens : List (List ℕ)) (k : Keeps a) where
       let blocks = k.blocks in
       let is : record a { family = a.family ++ member ∷ [] } ≡ b = cc in
       subst Keeps is record {
-        head = k.head; names = k.names; shift = k.shift; mults = k.mults; sizes = k.sizes; lambda = k.lambda; inside = k.inside; hole = k.hole;
+        head = k.head;
+        names = k.names;
+        shift = k.shift;
+        mults = k.mults;
+        sizes = k.sizes;
+        lambda = k.lambda;
+        inside = k.inside;
+        hole = k.hole;
         blocks = record {
           family = All-push (λ (m : Member). IsBlock (points_above a) (sizes_above a) m.block) a.family member blocks.family kept.0;
           few = omega (arith, kept.1, length_push a.family member);
-          required = blocks.required; forbidden = blocks.forbidden; few_stated = blocks.few_stated; none_required = blocks.none_required; none_forbidden = blocks.none_forbidden;
+          required = blocks.required;
+          forbidden = blocks.forbidden;
+          few_stated = blocks.few_stated;
+          none_required = blocks.none_required;
+          none_forbidden = blocks.none_forbidden;
         };
       }
 
@@ -234,13 +301,22 @@ module _ (a b : Above) (tokens : List (List ℕ)) (k : Keeps a) where
       let blocks = k.blocks in
       let is : record a { required = a.required ++ m.0 ∷ [] } ≡ b = cc in
       subst Keeps is record {
-        head = k.head; names = k.names; shift = k.shift; mults = k.mults; sizes = k.sizes; lambda = k.lambda; inside = k.inside; hole = k.hole;
+        head = k.head;
+        names = k.names;
+        shift = k.shift;
+        mults = k.mults;
+        sizes = k.sizes;
+        lambda = k.lambda;
+        inside = k.inside;
+        hole = k.hole;
         blocks = record {
-          family = blocks.family; few = blocks.few;
+          family = blocks.family;
+          few = blocks.few;
           required = All-push (IsBlock (points_above a) (sizes_above a)) a.required m.0 blocks.required kept.0;
           forbidden = blocks.forbidden;
           few_stated = omega (arith, kept.1, length_push a.required m.0);
-          none_required = λ first. absurd (omega (arith, first, second)); none_forbidden = blocks.none_forbidden;
+          none_required = λ first. absurd (omega (arith, first, second));
+          none_forbidden = blocks.none_forbidden;
         };
       }
 
@@ -252,11 +328,21 @@ module _ (a b : Above) (tokens : List (List ℕ)) (k : Keeps a) where
       let blocks = k.blocks in
       let is : record a { forbidden = a.forbidden ++ m.0 ∷ [] } ≡ b = cc in
       subst Keeps is record {
-        head = k.head; names = k.names; shift = k.shift; mults = k.mults; sizes = k.sizes; lambda = k.lambda; inside = k.inside; hole = k.hole;
+        head = k.head;
+        names = k.names;
+        shift = k.shift;
+        mults = k.mults;
+        sizes = k.sizes;
+        lambda = k.lambda;
+        inside = k.inside;
+        hole = k.hole;
         blocks = record {
-          family = blocks.family; few = blocks.few; required = blocks.required;
+          family = blocks.family;
+          few = blocks.few;
+          required = blocks.required;
           forbidden = All-push (IsBlock (points_above a) (sizes_above a)) a.forbidden m.0 blocks.forbidden kept.0;
           few_stated = omega (arith, kept.1, length_push a.forbidden m.0);
-          none_required = blocks.none_required; none_forbidden = λ first. absurd (omega (arith, first, second));
+          none_required = blocks.none_required;
+          none_forbidden = λ first. absurd (omega (arith, first, second));
         };
       }

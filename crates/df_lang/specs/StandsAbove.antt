@@ -27,8 +27,19 @@ pub record Above : Type 0 where
 -- above the first line
 abbrev pub nothing : Above
 nothing = record {
-  version = None; group = None; fixed = None; names = []; shift = None; mults = None; sizes = None;
-  lambda = None; inside = None; hole = None; family = []; required = []; forbidden = [];
+  version = None;
+  group = None;
+  fixed = None;
+  names = [];
+  shift = None;
+  mults = None;
+  sizes = None;
+  lambda = None;
+  inside = None;
+  hole = None;
+  family = [];
+  required = [];
+  forbidden = [];
 }
 
 -- what has to stand above

@@ -23,7 +23,12 @@ impl Draft {
         if count >= 4096 {
             return Err(SourceFault::TooManyBlocks);
         }
-        block(&self.shape, self.fixed.unwrap_or(0), sizes.as_slice(), tokens)
+        block(
+            &self.shape,
+            self.fixed.unwrap_or(0),
+            sizes.as_slice(),
+            tokens,
+        )
     }
 
     /// The line of `base` or `short`.

@@ -53,7 +53,9 @@ pub enum SourceFault {
 /// The first line that is wrong, from 1, or 0 for the end of the source.
 #[derive(Clone, Copy, Debug, PartialEq, Eq)]
 pub struct SourceError {
+    /// The number of the line, from 1, or 0.
     pub line: u64,
+    /// The first rule that it breaks.
     pub fault: SourceFault,
 }
 

@@ -6,21 +6,34 @@ use df_subsets::Block;
 use indexmap::IndexMap;
 use std::marker::Model;
 
-/// What a source states.
+/// What a source states, with the rules that it keeps. Contracts see it as a record of numbers and lists.
 #[derive(Drop)]
 pub struct Problem {
+    /// 1 or 2. In version 1 there is one size, and no block is required or forbidden.
     pub version: u8,
+    /// The group.
     pub shape: Shape,
+    /// The number of fixed points, at most 16. With the elements there are at most 128 points.
     pub fixed: u8,
+    /// The named subgroups of the group, fewer than 4,294,967,296, in the order of their lines.
     pub names: IndexMap<Name, Subgroup>,
+    /// The subgroup whose elements shift a design to itself.
     pub shift: Which,
+    /// The multipliers: below the exponent of the group and prime to it, each once.
     pub mults: ArrayVec<u16, 128>,
+    /// The sizes of the blocks: at least one, increasing, each from 2 to 16 and at most the number of points.
     pub sizes: ArrayVec<u8, 15>,
+    /// The target of two points, at most 2,000,000, where `inside` and `hole` say nothing else.
     pub lambda: u32,
+    /// The target of two elements of one coset of a subgroup, where it is stated.
     pub inside: Option<Inside>,
+    /// The target of two fixed points, at most 2,000,000.
     pub hole: u32,
+    /// The blocks to develop, at most 4,096, of points below the number of points and of the sizes.
     pub family: Vec<Member>,
+    /// The blocks that a design has to have; with the forbidden ones at most 4,096, of points below the number of points and of the sizes.
     pub required: Vec<Block>,
+    /// The blocks that a design may not have.
     pub forbidden: Vec<Block>,
 }
 

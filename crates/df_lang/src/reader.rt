@@ -60,12 +60,7 @@ impl Draft {
     }
 
     #[tactic(auto, unfolding(crate::specs::Statements::meaning, crate::specs::Statements::group_line))]
-    fn statement(
-        &mut self,
-        alloc: Global,
-        word: Word,
-        tokens: &mut Tokens<'_>,
-    ) -> Result<(), Stop>
+    fn statement(&mut self, alloc: Global, word: Word, tokens: &mut Tokens<'_>) -> Result<(), Stop>
         ensures { GoesOn (meaning (above self.old) word (left tokens.old)) (above self.new) result }
     {
         match word {

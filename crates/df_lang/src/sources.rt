@@ -1,5 +1,5 @@
 // Reads a whole source.
-ghost use Rattle.std.specs.Prelude.{◌≡◌, ◌≤◌, ◌^◌, length};
+ghost use Rattle.std.specs.Prelude.{◌≡◌};
 ghost use Rattle.df_lang.specs.Drafts.{above, stated_above, Parses};
 ghost use Rattle.df_lang.specs.DraftRules.{StandsKept};
 ghost use Rattle.df_lang.specs.Sources.{whole};
@@ -13,10 +13,9 @@ use crate::state::Reader;
 use arrayvec::ArrayVec;
 use std::alloc::Global;
 
-/// The problem that a source states, or the first line that breaks a rule: its number, from 1, with the first rule that it breaks.
-/// What a source has to state and doesn't is told at line 0. Condition: at most 4,294,967,296 bytes.
+/// The problem that a source states, or the first line that breaks a rule: its number, from 1, and the first rule that it breaks.
+/// What the whole source has to state and doesn't is told at line 0. A source of up to 4,294,967,296 bytes runs out of nothing but memory.
 pub fn parse(alloc: Global, source: &[u8]) -> Result<Problem, ParseError>
-    requires { length source.now ≤ 2 ^ 32 }
     ensures { Parses source.now result }
 {
     let reader = read_lines(alloc, source)?;

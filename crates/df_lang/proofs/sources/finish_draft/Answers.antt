@@ -8,7 +8,7 @@ use Rattle.df_lang.specs.StandsAbove.{Above}
 use Rattle.df_lang.specs.DraftRules.{Keeps, StandsKept}
 use Rattle.df_lang.specs.Drafts.{above}
 use Rattle.df_lang.proofs.LinesKept.{whole_kept, from_group_on}
-use Rattle.df_lang.proofs.finish.finish_draft.Goals as goal
+use Rattle.df_lang.proofs.sources.finish_draft.Goals as goal
 
 items_or : (o : Option (ArrayVec ℕ)) (v : ArrayVec ℕ) → v.items ≡ [] → unwrap_or (option_map items_of o) [] ≡ (unwrap_or o v).items
 items_or None v none = sym none
