@@ -16,6 +16,8 @@ mod lookups;
 mod multipliers;
 mod names;
 mod parts;
+#[cfg(test)]
+mod printing_tests;
 mod problem;
 mod put;
 mod read_points;
