@@ -30,14 +30,14 @@ pub numbers_short : (ns : List ℕ) → Each (λ n. n < 1000) ns → Each (IsSho
 numbers_short [] each = tt
 numbers_short (n ∷ ns) each = (number_short n each.0, numbers_short ns each.1)
 
-residues_small : (fs : List ℕ) (e : ℕ) → All IsFactor fs → Each (λ n. n < 1000) (residues fs e)
+pub residues_small : (fs : List ℕ) (e : ℕ) → All IsFactor fs → Each (λ n. n < 1000) (residues fs e)
 residues_small [] e each = tt
 residues_small (f ∷ fs) e each =
     let is = each 0 0 (omega arith) in
     let below : (e / order_of fs) % f < f = mod-lt (e / order_of fs) (omega (arith, is.0)) in
     (omega (arith, below, is.1), residues_small fs (e % order_of fs) (λ k d h. each (suc k) d (omega (arith, h))))
 
-residues_length : (fs : List ℕ) (e : ℕ) → length (residues fs e) ≡ length fs
+pub residues_length : (fs : List ℕ) (e : ℕ) → length (residues fs e) ≡ length fs
 residues_length [] e = refl
 residues_length (f ∷ fs) e = ap suc (residues_length fs (e % order_of fs))
 

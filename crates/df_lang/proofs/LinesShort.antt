@@ -178,8 +178,11 @@ all_from {X = X} P (x ∷ xs) each = at (all_from P xs each.1) where
   at rest zero d h = each.0
   at rest (suc k) d h = rest k d (omega (arith, h))
 
-pub canonical_below : (fs members : List ℕ) → IsShape fs → IsSubgroup fs members → All (λ e. e < order_of fs) (canonical_of fs members)
+pub canonical_each : (fs members : List ℕ) → IsShape fs → IsSubgroup fs members → Each (λ e. e < order_of fs) (canonical_of fs members)
 unfolding canonical_of
-canonical_below fs members is group =
+canonical_each fs members is group =
     let closed = (are_subgroups fs is).closed members group in
-    all_from (λ e. e < order_of fs) (canonical_from fs [] members) (from_below (order_of fs) fs [] members tt (set_below (order_of fs) members closed.set))
+    from_below (order_of fs) fs [] members tt (set_below (order_of fs) members closed.set)
+
+pub canonical_below : (fs members : List ℕ) → IsShape fs → IsSubgroup fs members → All (λ e. e < order_of fs) (canonical_of fs members)
+canonical_below fs members is group = all_from (λ e. e < order_of fs) (canonical_of fs members) (canonical_each fs members is group)

@@ -5,6 +5,7 @@ pub mod Drafts
 pub mod Names
 pub mod Pieces
 pub mod Problems
+pub mod RoundTrip
 pub mod Rules
 pub mod Separated
 pub mod Sources
