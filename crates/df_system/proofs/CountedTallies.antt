@@ -1,10 +1,11 @@
 -- The number of tallies that pass a test, when one of them changes.
-use Rattle.std.proofs.Common.{◌≡◌, ℕ, suc, zero, ◌+◌, ◌<◌, ◌≤◌, Bool, true, false, List, [], ◌∷◌, length, get_or, set, refl, sym, ap, ◌∙◌, arith, length-set, inl, inr}
+use Rattle.std.proofs.Common.{◌≡◌, ℕ, suc, zero, ◌+◌, ◌<◌, ◌≤◌, Bool, true, false, List, [], ◌∷◌, ◌++◌, length, get_or, set, take, refl, sym, ap, ◌∙◌, arith, length-set, inl, inr}
 use Rattle.std.specs.Prelude.{All}
 use Rattle.std.proofs.lemmas.Bool.{cases_Bool}
+use Rattle.std.proofs.lemmas.List.{take_more}
 use Rattle.std.proofs.lemmas.List.Elements.{All-set}
 use Rattle.df_system.specs.declared.tallies.Tally.{Tally}
-use Rattle.df_system.specs.Tallies.{tally_at, one_if, passing, FitsTally, is_over_tally, is_under_tally, is_unmet_tally, AreCounted}
+use Rattle.df_system.specs.Tallies.{blank_tally, tally_at, one_if, passing, FitsTally, is_over_tally, is_under_tally, is_unmet_tally, AreCounted}
 
 pub one_if_le : (test : Tally → Bool) (ts : List Tally) (i : ℕ) → i < length ts → one_if (test (tally_at ts i)) ≤ passing test ts
 one_if_le test [] i h = absurd (omega arith)
@@ -52,3 +53,15 @@ counted_change ts row after over under unmet over' under' unmet' c h fits o u m 
       fit = All-set FitsTally ts row after fits c.fit;
       few = omega (arith, length-set ts row after, c.few);
     }
+
+passing-append : (test : Tally → Bool) (xs ys : List Tally) → passing test (xs ++ ys) ≡ passing test xs + passing test ys
+passing-append test [] ys = omega arith
+passing-append test (x ∷ xs) ys = omega (arith, passing-append test xs ys)
+
+-- one tally more
+pub passing_more : (test : Tally → Bool) (ts : List Tally) (k : ℕ) → k < length ts → passing test (take (k + 1) ts) ≡ passing test (take k ts) + one_if (test (tally_at ts k))
+passing_more test ts k h =
+    ap (passing test) (take_more ts k blank_tally h) ∙ passing-append test (take k ts) (tally_at ts k ∷ []) ∙ (let e : passing test (take k ts) + (one_if (test (tally_at ts k)) + 0) ≡ passing test (take k ts) + one_if (test (tally_at ts k)) = omega arith in e)
+
+pub one_if_few : (b : Bool) → one_if b ≤ 1
+one_if_few b = at_most_one b

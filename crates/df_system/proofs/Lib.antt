@@ -7,3 +7,7 @@ pub mod SystemParts
 pub mod DenseSystems
 pub mod CountedTallies
 pub mod ColumnChanges
+pub mod DecisionTrails
+pub mod PartialSteps
+pub mod TalliesAtStart
+pub mod IncreasingColumns

@@ -79,3 +79,18 @@ pub record AreTallied (s : System) (ds : Decisions) (tallies : List Tally) : Typ
   pub long : length tallies ≡ length s.targets
   pub each : (row : ℕ) → row < length s.targets → tally_at tallies row ≡ tally_of s ds row
   pub whole : (row : ℕ) → row < length s.targets → cap (entries s row) [] < 2 ^ 63
+
+-- each row's tally has all the row's entries in its cap, and else what it had
+pub record AddsCaps (s : System) (old new : List Tally) : Type 0 where
+  pub long : length new ≡ length old
+  pub each : (row : ℕ) → row < length old → tally_at new row ≡ changed LeaveBack (tally_at old row) (cap (entries s row) [])
+
+-- the change that a decision is, and the one that takes it back
+abbrev pub change_of : Bool → Change
+change_of true = Take
+change_of false = Leave
+
+abbrev pub change_back : Option Bool → Change
+change_back (Some true) = TakeBack
+change_back (Some false) = LeaveBack
+change_back None = LeaveBack
