@@ -1,8 +1,8 @@
 -- Binomial numbers.
 use Rattle.std.proofs.Common.{◌≡◌, ℕ, suc, zero, ◌+◌, ◌-◌, ◌*◌, ◌/◌, ◌%◌, ◌^◌, ◌<◌, ◌≤◌, refl, sym, ap, add-one, lit<, ◌∙◌, inl, inr, ◌⊎◌, arith, ⊎_elim}
 use Rattle.std.proofs.lemmas.Bool.{cases_lt}
-use Rattle.std.proofs.lemmas.Nat.{pow_pos, div-add-mod'}
-use Rattle.std.proofs.Math.Nat.{two-pow-succ, pow-le-pow_right, mul-div_cancel, mul-le-mul_right}
+use Rattle.std.proofs.lemmas.Nat.{pow_pos, div-add-mod', mod_below, div-mul-add}
+use Rattle.std.proofs.Math.Nat.{two-pow-succ, pow-le-pow_right, mul-div_cancel}
 use Rattle.df_subsets.specs.Subsets.{binomial}
 
 -- nothing more can be chosen than there is
@@ -56,17 +56,20 @@ binomial_fits zero zero h = lit< tt
 binomial_fits zero (suc k) h = lit< tt
 binomial_fits (suc n) k h = let l = pow-le-pow_right {n = 2} (omega arith) {i = suc n} {j = 128} h in let s = binomial_small n k in omega (arith, l, s)
 
--- a product that a number divides, by parts
-pub divided : (c d m t : ℕ) → 0 < d → t * d ≡ c * m → c / d * m + (c % d) * m / d ≡ t
-divided c d m t pos e =
+-- from one binomial to the next in its row, by a division without rest
+pub binomial_next : (n k : ℕ) → binomial n k * (n - k) / (k + 1) ≡ binomial n (k + 1)
+binomial_next n k = ap (λ m. m / (k + 1)) (sym (binomial_turn n k)) ∙ mul-div_cancel (binomial n (k + 1)) {n = k + 1} (omega arith)
+
+regrouped : (q d r m e f : ℕ) → e * d + f ≡ r * m → (q * d + r) * m ≡ (q * m + e) * d + f
+regrouped q d r m e f h = omega (arith, h)
+
+-- a quotient of a product, by parts
+pub divided : (c d m : ℕ) → 0 < d → c / d * m + (c % d) * m / d ≡ c * m / d
+divided c d m pos =
     let q = c / d in
     let r = c % d in
     let whole : q * d + r ≡ c = div-add-mod' c d in
-    let parts : t * d ≡ (q * d + r) * m = e ∙ ap (λ n. n * m) (sym whole) in
-    let fits : q * m ≤ t = ⊎_elim (λ l. let bad = mul-le-mul_right d l in absurd (omega (arith, bad, parts, pos))) (λ g. g) (cases_lt t (q * m)) in
-    let u = t - q * m in
-    let split : t ≡ q * m + u = omega (arith, fits) in
-    let both : (q * m + u) * d ≡ (q * d + r) * m = sym (ap (λ n. n * d) split) ∙ parts in
-    let rest : r * m ≡ u * d = omega (arith, both) in
-    let high : r * m / d ≡ t - q * m = ap (λ n. n / d) rest ∙ mul-div_cancel (t - q * m) pos in
-    omega (arith, high, fits)
+    let inner : r * m / d * d + r * m % d ≡ r * m = div-add-mod' (r * m) d in
+    let small : r * m % d < d = mod_below (r * m) d pos in
+    let all : c * m ≡ (q * m + r * m / d) * d + r * m % d = ap (λ n. n * m) (sym whole) ∙ regrouped q d r m (r * m / d) (r * m % d) inner in
+    sym (ap (λ n. n / d) all ∙ div-mul-add (q * m + r * m / d) d (r * m % d) small)

@@ -97,7 +97,8 @@ pub Rises-append : (low m v : ℕ) (a b : List ℕ) → low ≤ m → m ≤ v �
 Rises-append low m v [] b h k r s = Rises-wider low m v v b h (omega arith) s
 Rises-append low m v (p ∷ a) b h k r s = (r.0, omega (arith, r.1), Rises-append (p + 1) m v a b (omega (arith, r.1)) k r.2 s)
 
-Rises-bound : (low v : ℕ) (b : List ℕ) (p : ℕ) → Rises low v b → In b p → p < v
+-- each point lies below the bound
+pub Rises-bound : (low v : ℕ) (b : List ℕ) (p : ℕ) → Rises low v b → In b p → p < v
 Rises-bound low v [] p r i = absurd i
 Rises-bound low v (q ∷ b) p r (inl e) = omega (arith, r.1, e)
 Rises-bound low v (q ∷ b) p r (inr i) = Rises-bound (q + 1) v b p r.2 i

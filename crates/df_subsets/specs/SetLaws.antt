@@ -1,11 +1,14 @@
 -- What blocks are as sets of points.
-use Rattle.std.specs.Prelude.{◌≡◌, ◌==◌, ◌<◌, ◌+◌, ℕ, true, ◌||◌, List, [], ◌∷◌, ◌++◌, length, if◌then◌else◌}
+use Rattle.std.specs.Prelude.{◌≡◌, ◌==◌, ◌<◌, ◌≤◌, ◌+◌, ℕ, true, ◌||◌, List, [], ◌∷◌, ◌++◌, length, slice_index_or, if◌then◌else◌}
 use Rattle.df_lists.specs.Membership.{In}
 use Rattle.df_lists.specs.NumberSets.{has_member, with_member, set_of, IsSet}
 use Rattle.df_subsets.specs.Blocks.{IsBlock, are_apart, increasing}
 
 -- blocks are the sets of numbers below v, told by their points
 pub record AreSets : Type 0 where
+  pub inside : (v : ℕ) (b : List ℕ) (p : ℕ) → IsBlock v b → In b p → p < v
+  pub at : (v : ℕ) (b : List ℕ) (i d : ℕ) → IsBlock v b → i < length b → slice_index_or b i d < v
+  pub few : (v : ℕ) (b : List ℕ) → IsBlock v b → length b ≤ v
   pub same : (v w : ℕ) (a b : List ℕ) → IsBlock v a → IsBlock w b → ((p : ℕ) → has_member a p ≡ has_member b p) → a ≡ b
   pub below : (v w : ℕ) (b : List ℕ) → IsBlock w b → ((p : ℕ) → In b p → p < v) → IsBlock v b
   pub to_set : (v : ℕ) (b : List ℕ) → IsBlock v b → IsSet v b

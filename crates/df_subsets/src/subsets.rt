@@ -1,5 +1,5 @@
 // All blocks of a size in order: the first, the next, places, and how many there are.
-ghost use Rattle.std.specs.Prelude.{◌≡◌, ◌+◌, ◌-◌, ◌^◌, ◌<◌, ◌≤◌, length, slice_get, IfSome};
+ghost use Rattle.std.specs.Prelude.{◌≡◌, ◌+◌, ◌-◌, ◌*◌, ◌/◌, ◌^◌, ◌<◌, ◌≤◌, length, slice_get, IfSome};
 ghost use Rattle.std.specs.List.{range_with_len};
 ghost use Rattle.df_lists.specs.NumberSets.{weight};
 ghost use Rattle.df_subsets.specs.Blocks.{IsBlock};
@@ -28,11 +28,23 @@ fn choices(n: u8, k: u8) -> u128
     }
     let mut count: u128 = 1;
     for taken in 0..k {
-        let rest = (n - taken) as u128;
-        let share = (taken + 1) as u128;
-        count = count / share * rest + count % share * rest / share;
+        count = scaled(count, n - taken, taken + 1);
     }
     count
+}
+
+// count * rest / share. A small product is made first, and a large one in parts, since it may not fit.
+fn scaled(count: u128, rest: u8, share: u8) -> u128
+    requires some { 0 < share }
+    requires fits { count * rest / share < 2 ^ 128 }
+    ensures { result ≡ count * rest / share }
+{
+    if count < 1 << 56 {
+        return (count as u64 * rest as u64 / share as u64) as u128;
+    }
+    let rest = rest as u128;
+    let share = share as u128;
+    count / share * rest + count % share * rest / share
 }
 
 /// The first block of k points below v, for k from 1 to v and v at most 128: the points below k.
@@ -85,7 +97,8 @@ fn below_top(v: u8, bits: u128) -> (u8, u128)
     (top, low)
 }
 
-/// The place of a block among the blocks of its size of points below v, from 0, in their order.
+/// The place of a block among the blocks of its size of points below v, from 0, in their order:
+/// its number in the combinatorial number system, counted from the end (Knuth, *The Art of Computer Programming*, 7.2.1.3).
 /// The block isn't empty and lies below v, which is at most 128.
 pub fn rank(v: u8, block: &Block) -> u128
     requires small { v ≤ 128 }

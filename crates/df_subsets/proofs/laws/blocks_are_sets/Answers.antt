@@ -1,5 +1,15 @@
+use Rattle.std.proofs.Common.{arith}
 use Rattle.df_subsets.proofs.BlockLaws.{same_points, block_of_below, block_is_set, set_is_block}
+use Rattle.df_subsets.proofs.BlockBits.{Rises-bound, point_below, length_fits}
 use Rattle.df_subsets.proofs.laws.blocks_are_sets.Goals as goal
 
 pub returns : goal.returns
-returns c = record { same = same_points 0; below = block_of_below; to_set = block_is_set; from_set = set_is_block }
+returns c = record {
+  inside = Rises-bound 0;
+  at = λ v b i d r h. point_below 0 v b i d r h;
+  few = λ v b r. let f = length_fits 0 v b (omega arith) r in omega (arith, f);
+  same = same_points 0;
+  below = block_of_below;
+  to_set = block_is_set;
+  from_set = set_is_block;
+}
