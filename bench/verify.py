@@ -1,5 +1,5 @@
 #!/usr/bin/env python3
-"""Runs `verify` of the built program on growing families, and prints a table.
+"""Runs `verify` and `table` of the built program on growing families, and prints a table of seconds.
 
 verify.py [PROGRAM]    PROGRAM is crates/df_main/out/df_main where it isn't given
 
@@ -7,6 +7,8 @@ The families have blocks of 16 points. Over the group of order 127 they are the 
 which cover each difference equally often. The last one is over the group of order 128: 127 blocks are chosen so that
 their differences of each even part are as many as there are such differences, times 240, and are multiplied by the
 odd numbers below 64. A source whose name ends in `refused` asks for one more block a pair: its text is one line.
+Each family is verified once with its blocks as `base` and once as `short`: no translation fixes one of them, so both
+develop into the same blocks, but of a short one the program has to find that no translate comes twice.
 """
 import pathlib, random, subprocess, sys, time
 
@@ -55,30 +57,35 @@ def even_family(seed):
     return 128, 32 * 240, multiples(128, blocks, range(1, 64, 2))
 
 
-def source(v, target, blocks):
-    lines = [f"group {v}", "k 16", f"lambda {target}"] + ["base " + " ".join(map(str, b)) for b in blocks]
+def source(v, target, blocks, kind):
+    lines = [f"group {v}", "k 16", f"lambda {target}"] + [kind + " " + " ".join(map(str, b)) for b in blocks]
     return ("\n".join(lines) + "\n").encode()
+
+
+def timed(program, word, text):
+    start = time.perf_counter()
+    run = subprocess.run([program, word], input=text, stdout=subprocess.PIPE)
+    return time.perf_counter() - start, run
 
 
 def main():
     top = pathlib.Path(__file__).resolve().parent.parent
     program = sys.argv[1] if len(sys.argv) > 1 else str(top / "crates/df_main/out/df_main")
-    families = [(f"order 127, {63 * n} base blocks", prime_family(n, n)) for n in (1, 4, 16, 64)]
-    families.append(("order 128, 4064 base blocks", even_family(7)))
+    families = [(f"order 127, {63 * n} blocks", prime_family(n, n)) for n in (1, 4, 16, 64)]
+    families.append(("order 128, 4064 blocks", even_family(7)))
     v, target, blocks = families[-1][1]
     families.append(("the same, refused", (v, target + 1, blocks)))
-    print(f"{'family':34} {'blocks':>8} {'bytes':>10} {'seconds':>8} {'ns/block':>9}")
+    print(f"{'family':26} {'printed':>8} {'bytes':>10} {'base':>7} {'ns/block':>9} {'short':>7} {'ns/block':>9} {'table':>7}")
     for name, (v, target, blocks) in families:
-        text = source(v, target, blocks)
-        start = time.perf_counter()
-        run = subprocess.run([program, "verify"], input=text, stdout=subprocess.PIPE)
-        seconds = time.perf_counter() - start
+        base, run = timed(program, "verify", source(v, target, blocks, "base"))
+        short, again = timed(program, "verify", source(v, target, blocks, "short"))
+        table, rows = timed(program, "table", source(v, target, blocks, "base"))
         printed = run.stdout.count(b"\nblock ")
         wanted = (0, v * len(blocks)) if not name.endswith("refused") else (1, 0)
-        if (run.returncode, printed) != wanted:
+        if (run.returncode, printed) != wanted or again.stdout != run.stdout or rows.stdout.count(b"\n") != v - 1:
             sys.exit(f"{name}: status {run.returncode} and {printed} blocks, not {wanted}")
-        each = f"{seconds * 1e9 / printed:9.0f}" if printed else f"{'':9}"
-        print(f"{name:34} {printed:8} {len(run.stdout):10} {seconds:8.3f} {each}")
+        each = lambda seconds: f"{seconds * 1e9 / printed:9.0f}" if printed else f"{'':9}"
+        print(f"{name:26} {printed:8} {len(run.stdout):10} {base:7.3f} {each(base)} {short:7.3f} {each(short)} {table:7.3f}")
 
 
 main()
