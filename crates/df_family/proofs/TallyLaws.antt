@@ -1,7 +1,8 @@
 -- The numbers of rows while they are counted.
-use Rattle.std.proofs.Common.{◌≡◌, ℕ, zero, suc, ◌+◌, ◌-◌, ◌*◌, ◌/◌, ◌%◌, ◌<◌, ◌≤◌, Bool, true, false, cond, eqb, eqb-true, ◌&&◌, List, [], ◌∷◌, length, get_or, sum_by, count_by, refl, ap, ◌∙◌, arith}
+use Rattle.std.proofs.Common.{◌≡◌, sym, inr, inl, ◌≢◌, nat_lt, lt-ltb, le-ltb, ℕ, zero, suc, ◌+◌, ◌-◌, ◌*◌, ◌/◌, ◌%◌, ◌<◌, ◌≤◌, Bool, true, false, cond, eqb, eqb-true, ◌&&◌, List, [], ◌∷◌, length, get_or, sum_by, count_by, refl, ap, ◌∙◌, arith}
 use Rattle.std.proofs.lemmas.List.Sums.{count_by-le-length}
 use Rattle.std.proofs.Math.Nat.{div-le_self}
+use Rattle.std.proofs.lemmas.Bool.{cases_lt}
 use Rattle.df_lists.specs.NumberSets.{has_member}
 use Rattle.df_lists.proofs.CountLaws.{sb, sb_is}
 use Rattle.df_group.specs.Elements.{order_of, group_of, minus}
@@ -105,3 +106,21 @@ pub zero_number : (t : Tally) → all_zero t.differences ≡ true → all_zero t
 zero_number t d s p (Diff e) = zero_here t.differences e d
 zero_number t d s p (WithFixed i) = zero_here t.singles (i - 1) s
 zero_number t d s p (TwoFixed i j) = zero_here t.pairs (16 * (i - 1) + (j - 1)) p
+
+-- a number that grows at one place of its row's turn
+pub at_its_turn : (r i old now next amount : ℕ) → now ≡ old + cond (nat_lt r i) amount 0 → (r ≡ i → next ≡ now + amount) → (r ≢ i → next ≡ now) → next ≡ old + cond (nat_lt r (i + 1)) amount 0
+at_its_turn r i old now next amount before here elsewhere =
+    elim (cases_lt r i) [
+      | inl l ↦
+          let e : now ≡ old + amount = before ∙ ap (λ v. old + cond v amount 0) (lt-ltb r i l) in
+          elsewhere (λ e. omega arith) ∙ e ∙ sym (ap (λ v. old + cond v amount 0) (lt-ltb r (i + 1) (omega arith)))
+      | inr g ↦
+          let e : now ≡ old + 0 = before ∙ ap (λ v. old + cond v amount 0) (le-ltb r i g) in
+          elim (cases_lt i r) [
+            | inl l ↦ elsewhere (λ e. omega arith) ∙ e ∙ sym (ap (λ v. old + cond v amount 0) (le-ltb r (i + 1) (omega arith)))
+            | inr l ↦
+                let same : r ≡ i = omega arith in
+                let grown : next ≡ old + amount = omega (arith, here same) in
+                grown ∙ sym (ap (λ v. old + cond v amount 0) (lt-ltb r (i + 1) (omega arith)))
+          ]
+    ]

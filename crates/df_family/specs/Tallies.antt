@@ -13,6 +13,12 @@ number_at t (Diff d) = get_or t.differences d 0
 number_at t (WithFixed i) = get_or t.singles (i - 1) 0
 number_at t (TwoFixed i j) = get_or t.pairs (16 * (i - 1) + (j - 1)) 0
 
+-- there is a place for the number of the row
+abbrev pub IsCell : Row → Type 0
+IsCell (Diff d) = d < 128
+IsCell (WithFixed i) = (0 < i) × (i ≤ 16)
+IsCell (TwoFixed i j) = (0 < i) × (i ≤ 16) × (0 < j) × (j ≤ 16)
+
 -- the row has a number: it names an element below the order, or fixed points
 abbrev pub HasNumber : Stated → Row → Type 0
 HasNumber s (Diff d) = d < order_of s.group

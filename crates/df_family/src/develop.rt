@@ -43,7 +43,6 @@ impl<'a> Develop<'a> {
         ensures blocks { All (IsBlock (point_count problem.now) problem.now.sizes) (develop problem.now) }
         ensures sizes { All (λ block. length block ≤ 16) (develop problem.now) }
     {
-        let _order = order(problem);
         Develop {
             problem,
             member: 0,
@@ -73,7 +72,8 @@ impl<'a> Develop<'a> {
 
 // The elements that fix the block of this member, where it is short.
 fn fixing_of(problem: &Problem, member: usize) -> Block
-    ensures { IsFixingOf problem.now (drop member problem.now.family) result }
+    ensures fixing { IsFixingOf problem.now (drop member problem.now.family) result }
+    ensures rules { IsStated problem.now }
 {
     match member_at(problem, member) {
         None => Block::empty(),

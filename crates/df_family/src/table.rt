@@ -4,7 +4,7 @@ ghost use Rattle.df_group.specs.Elements.{order_of};
 ghost use Rattle.df_lang.specs.Problems.{point_count};
 ghost use Rattle.df_lang.specs.Targets.{target as target_of};
 ghost use Rattle.df_family.specs.Tables.{differences, singles, pairs, pairs_of, stated as stated_of, entry, table, IsRow, entry_at, is_wrong};
-ghost use Rattle.df_family.specs.Tallies.{HasNumber, IsTallyOf};
+ghost use Rattle.df_family.specs.Tallies.{HasNumber, IsCell, IsTallyOf};
 
 use crate::OutOfMemory;
 use crate::problem_parts::{fixed, fixed_point, order};
@@ -204,6 +204,7 @@ fn push_row(
     q: Point,
 ) -> Result<(), OutOfMemory>
     requires tally { IsTallyOf problem.now tally.now }
+    requires cell { IsCell row.now }
     requires number { HasNumber problem.now row.now }
     requires apart { p ≢ q }
     requires p { p < point_count problem.now }
@@ -213,7 +214,7 @@ fn push_row(
 {
     entries.push(Entry {
         row: *row,
-        found: tally.number(problem, *row),
+        found: tally.number(*row),
         stated: u64::from(target(problem, p, q)),
     })?;
     Ok(())

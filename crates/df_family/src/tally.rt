@@ -1,11 +1,11 @@
 // Counting how often each row of the difference table is found.
-ghost use Rattle.std.specs.Prelude.{◌≡◌, ◌==◌, ℕ, ◌+◌, ◌*◌, ◌/◌, ◌%◌, ◌^◌, ◌<◌, ◌≤◌, length, filter, All, sum_by, count_by, slice_index, if◌then◌else◌};
+ghost use Rattle.std.specs.Prelude.{◌≡◌, ◌≢◌, ◌==◌, ℕ, ◌+◌, ◌*◌, ◌/◌, ◌%◌, ◌^◌, ◌<◌, ◌≤◌, length, filter, All, sum_by, count_by, slice_index, if◌then◌else◌};
 ghost use Rattle.df_lists.specs.NumberSets.{has_member, IsSet};
 ghost use Rattle.df_group.specs.Elements.{order_of, group_of, minus};
 ghost use Rattle.df_lang.specs.Problems.{IsStated, point_count};
 ghost use Rattle.df_lang.specs.Balance.{holds};
 ghost use Rattle.df_family.specs.Tables.{finite_points as finite_points_of, occurs, summand};
-ghost use Rattle.df_family.specs.Tallies.{number_at, HasNumber, IsWithin};
+ghost use Rattle.df_family.specs.Tallies.{number_at, IsCell, HasNumber, IsWithin};
 
 use crate::problem_parts::{difference, fixed_point, order};
 use crate::table::Row;
@@ -35,11 +35,10 @@ impl Tally {
     }
 
     /// The number of a row.
-    pub fn number(&self, problem: &Problem, row: Row) -> u64
-        requires { HasNumber problem.now row }
+    pub fn number(&self, row: Row) -> u64
+        requires { IsCell row }
         ensures { result ≡ number_at self.now row }
     {
-        let _order = order(problem);
         match row {
             Row::Diff(d) => self.differences[usize::from(d.0)],
             Row::WithFixed(i) => self.singles[usize::from(i - 1)],
@@ -173,10 +172,29 @@ fn count_pairs(cells: &mut [u64; 256], problem: &Problem, block: &Block)
     ensures { (c : ℕ) → c < 16 * problem.now.fixed → slice_index cells.new c
         ≡ slice_index cells.old c + (if holds block.now (order_of problem.now.group + c / 16) (order_of problem.now.group + c % 16) then order_of problem.now.group else 0) }
 {
-    for c in 0..16 * usize::from(problem.fixed) {
-        let first = fixed_point(problem, (c / 16) as u8 + 1);
-        let second = fixed_point(problem, (c % 16) as u8 + 1);
-        let held = block.has(first) && block.has(second);
-        cells[c] += if held { u64::from(order(problem)) } else { 0 };
+    for i in 0..problem.fixed {
+        count_pairs_with(cells, problem, block, i);
+    }
+}
+
+// Counts the fixed points of the block beside this one, from 0, where the block holds it.
+fn count_pairs_with(cells: &mut [u64; 256], problem: &Problem, block: &Block, i: u8)
+    requires rules { IsStated problem.now }
+    requires i { i < problem.now.fixed }
+    requires room { (j : ℕ) → j < 16 → slice_index cells.old (16 * i + j) ≤ 2 ^ 40 }
+    ensures here { (j : ℕ) → j < 16 → slice_index cells.new (16 * i + j)
+        ≡ slice_index cells.old (16 * i + j) + (if holds block.now (order_of problem.now.group + i) (order_of problem.now.group + j) then order_of problem.now.group else 0) }
+    ensures elsewhere { (c : ℕ) → c / 16 ≢ i → slice_index cells.new c ≡ slice_index cells.old c }
+{
+    if !block.has(fixed_point(problem, i + 1)) {
+        return;
+    }
+    for j in 0..16u8 {
+        let held = block.has(fixed_point(problem, j + 1));
+        cells[16 * usize::from(i) + usize::from(j)] += if held {
+            u64::from(order(problem))
+        } else {
+            0
+        };
     }
 }
