@@ -1,6 +1,6 @@
 -- Each canonical line of a problem has fewer than 1,024 bytes.
-use Rattle.std.proofs.Common.{◌≡◌, ◌≢◌, ℕ, ◌<◌, Bool, true, false, cond, eqb, List, [], ◌∷◌, ◌++◌, length, map, All, Option, Some, None, IfSome, decimal, codes, arith}
-use Rattle.std.specs.List.{flat_map, AllPairs}
+use Rattle.std.proofs.Common.{◌≢◌, ℕ, ◌<◌, true, false, cond, eqb, List, [], ◌∷◌, length, All, Option, Some, None, IfSome, codes, arith}
+use Rattle.std.specs.List.{AllPairs}
 use Rattle.df_io.specs.Joined.{Each, spaced}
 use Rattle.df_group.specs.Elements.{IsShape}
 use Rattle.df_group.proofs.SubgroupLaws.{are_subgroups}
@@ -10,7 +10,8 @@ use Rattle.df_lang.specs.declared.canonical.Section.{Section}
 use Rattle.df_lang.specs.declared.canonical.Section.TheVariants as section
 use Rattle.df_lang.specs.Problems.{Stated, Named, IsStated, IsNamed, IsInside, IsMultiplier, IsSize, IsBlock, point_count}
 use Rattle.df_lang.specs.Canonical.{mult_statements, inside_statements, kind_text, subgroup_tokens, block_tokens, member_tokens, statements_in, statements_of, sections, canonical}
-use Rattle.df_lang.proofs.LinesShort.{each_from, each_append, each_map, all_from, group_short, number_line_short, mult_short, sizes_short, shift_short, inside_short, subgroup_short, block_line_short, kind_short}
+use Rattle.df_lang.proofs.EachMember.{each_from, each_map, all_from, each_flat_map}
+use Rattle.df_lang.proofs.LinesShort.{group_short, number_line_short, mult_short, sizes_short, shift_short, inside_short, subgroup_short, block_line_short, kind_short}
 
 abbrev pub IsShortLine : List (List ℕ) → Type 0
 IsShortLine tokens = length (spaced tokens) < 1024
@@ -47,10 +48,6 @@ section_short s is section.Required =
 section_short s is section.Forbidden =
     each_map (IsBlock (point_count s) s.sizes) IsShortLine (block_tokens s.group (codes "forbid")) s.forbidden
     (λ b h. block_line_short s.group (codes "forbid") (point_count s) s.sizes b is.shape is.points (omega arith) (each_from (IsSize (point_count s)) s.sizes is.sizes) h) (each_from (IsBlock (point_count s) s.sizes) s.forbidden is.forbidden)
-
-pub each_flat_map : {X Y : Type 0} (P : Y → Type 0) (f : X → List Y) → ((x : X) → Each P (f x)) → (xs : List X) → Each P (flat_map f xs)
-each_flat_map P f each [] = tt
-each_flat_map P f each (x ∷ xs) = each_append P (f x) (flat_map f xs) (each x) (each_flat_map P f each xs)
 
 pub canonical_short : (s : Stated) → IsStated s → All (λ line. length line < 1024) (canonical s)
 unfolding canonical statements_of

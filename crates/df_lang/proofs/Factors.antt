@@ -1,5 +1,5 @@
 -- The factors of a group, one more.
-use Rattle.std.proofs.Common.{◌≡◌, ℕ, ◌+◌, ◌*◌, ◌<◌, ◌≤◌, true, false, ltb, leb, suc, List, [], ◌∷◌, ◌++◌, length, All, Option, Some, None, Ok, is_some, unwrap_or, refl, sym, ap, ◌∙◌, arith, tests, mul_assoc}
+use Rattle.std.proofs.Common.{◌≡◌, ℕ, ◌*◌, ◌<◌, ◌≤◌, true, false, ltb, leb, suc, List, [], ◌∷◌, ◌++◌, length, All, None, Ok, refl, sym, ap, ◌∙◌, arith, tests, mul_assoc}
 use Rattle.std.specs.List.{position_or_len}
 use Rattle.df_group.specs.Elements.{order_of, IsFactor, IsShape}
 use Rattle.df_group.specs.Refusals.{refusal, is_outside}

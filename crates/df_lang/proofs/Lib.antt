@@ -1,7 +1,9 @@
 pub mod Behind
 pub mod CanonicalShort
+pub mod EachMember
 pub mod ElementParts
 pub mod Factors
+pub mod GeneratorsBelow
 pub mod InOrder
 pub mod KeptOnce
 pub mod Lengths
@@ -16,6 +18,7 @@ pub mod PointsKept
 pub mod RulesKept
 pub mod SectionsBack
 pub mod SectionsLeft
+pub mod SetsBelow
 pub mod SizesRise
 pub mod SourceBack
 pub mod StatementsKept

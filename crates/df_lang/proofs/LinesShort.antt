@@ -1,6 +1,6 @@
 -- Each canonical line has fewer than 1,024 bytes.
-use Rattle.std.proofs.Common.{◌≡◌, ◌≢◌, ℕ, zero, suc, ◌+◌, ◌*◌, ◌^◌, ◌<◌, ◌≤◌, Bool, true, false, cond, eqb, leb, List, [], ◌∷◌, ◌++◌, length, map, get_or, take, filter, All, Option, Some, None, IfSome, decimal, codes, inl, inr, refl, sym, ap, ◌∙◌, subst, arith, tests, length-append, ne_eqb, ◌&&◌}
-use Rattle.std.specs.List.{range_with_len, list_any, list_all, AllPairs}
+use Rattle.std.proofs.Common.{◌≡◌, ◌≢◌, ℕ, zero, suc, ◌+◌, ◌*◌, ◌<◌, ◌≤◌, Bool, true, false, eqb, leb, List, [], ◌∷◌, length, map, get_or, take, All, decimal, codes, inl, inr, sym, ap, subst, arith, tests, length-append, ne_eqb, ◌&&◌}
+use Rattle.std.specs.List.{list_any, list_all, AllPairs}
 use Rattle.std.proofs.lemmas.Bool.{cases_lt}
 use Rattle.std.proofs.lemmas.Fmt.{length-decimal-le}
 use Rattle.std.proofs.lemmas.List.{length-map}
@@ -8,59 +8,26 @@ use Rattle.std.proofs.lemmas.Map.Keys.{IsDistinct-from_apart}
 use Rattle.std.proofs.lemmas.Map.Steps.{length-le_from_distinct_below}
 use Rattle.df_io.specs.Joined.{Each, spaced}
 use Rattle.df_lists.specs.NumberSets.{has_member, IsSet}
-use Rattle.df_subsets.specs.Blocks.{Rises, IsBlock as IsRising}
-use Rattle.df_subsets.proofs.BlockLaws.{set_is_block}
-use Rattle.df_group.specs.Elements.{order_of, IsFactor, IsShape}
-use Rattle.df_group.specs.Subgroups.{exponent_of, generated, IsSubgroup, canonical_from, canonical_of}
+use Rattle.df_group.specs.Elements.{IsFactor, IsShape}
+use Rattle.df_group.specs.Subgroups.{canonical_of}
 use Rattle.df_group.proofs.ExponentLaws.{exponent_high}
-use Rattle.df_group.proofs.SubgroupLaws.{are_subgroups}
 use Rattle.df_lang.specs.declared.parts.Which.{Which}
 use Rattle.df_lang.specs.declared.parts.Which.TheVariants as which
-use Rattle.df_lang.specs.declared.parts.Inside.{Inside}
 use Rattle.df_lang.specs.declared.parts.Member.{Member}
 use Rattle.df_lang.specs.declared.parts.Kind.{Kind}
 use Rattle.df_lang.specs.declared.parts.Kind.TheVariants as kind
-use Rattle.df_lang.specs.Names.{is_name, is_letter, is_name_byte}
-use Rattle.df_lang.specs.Problems.{Stated, Named, IsStated, IsNamed, IsMultiplier, IsSize, IsBlock}
+use Rattle.df_lang.specs.Names.{is_letter, is_name_byte}
+use Rattle.df_lang.specs.Problems.{Named, IsNamed, IsMultiplier, IsSize, IsBlock}
 use Rattle.df_lang.specs.Canonical.{element_text, point_text, which_text, number_tokens, subgroup_tokens, block_tokens, member_tokens, kind_text}
 use Rattle.df_lang.specs.Separated.{behind}
 use Rattle.df_lang.proofs.Behind.{join_behind}
+use Rattle.df_lang.proofs.EachMember.{each_from, each_so}
+use Rattle.df_lang.proofs.SetsBelow.{set_below, set_few}
 use Rattle.df_lang.proofs.Lengths.{IsShort, behind_short, numbers_short, element_short, points_short}
-
-pub each_from : {X : Type 0} (P : X → Type 0) (xs : List X) → All P xs → Each P xs
-each_from P [] all = tt
-each_from P (x ∷ xs) all = (all 0 x (omega arith), each_from P xs (λ k d h. all (suc k) d (omega (arith, h))))
-
-pub each_map : {X Y : Type 0} (P : X → Type 0) (Q : Y → Type 0) (f : X → Y) (xs : List X) → ((x : X) → P x → Q (f x)) → Each P xs → Each Q (map f xs)
-each_map P Q f [] so each = tt
-each_map P Q f (x ∷ xs) so each = (so x each.0, each_map P Q f xs so each.1)
-
-pub each_so : {X : Type 0} (P Q : X → Type 0) (xs : List X) → ((x : X) → P x → Q x) → Each P xs → Each Q xs
-each_so P Q [] so each = tt
-each_so P Q (x ∷ xs) so each = (so x each.0, each_so P Q xs so each.1)
-
-pub each_append : {X : Type 0} (P : X → Type 0) (xs ys : List X) → Each P xs → Each P ys → Each P (xs ++ ys)
-each_append P [] ys one two = two
-each_append P (x ∷ xs) ys one two = (one.0, each_append P xs ys one.1 two)
 
 -- a line of a word and other tokens
 pub tokens_short : (word : List ℕ) (n : ℕ) (texts : List (List ℕ)) → Each (IsShort n) texts → length (spaced (word ∷ texts)) ≤ length word + length texts * (n + 1)
 tokens_short word n texts each = omega (arith, ap length (join_behind 32 word texts), length-append word (behind 32 texts), behind_short 32 n texts each)
-
--- a set of numbers below v has its members below v, and at most v of them
-rises_below : (low v : ℕ) (b : List ℕ) → Rises low v b → Each (λ p. p < v) b
-rises_below low v [] is = tt
-rises_below low v (p ∷ b) is = (is.1, rises_below (p + 1) v b is.2)
-
-rises_few : (low v : ℕ) (b : List ℕ) → low ≤ v → Rises low v b → low + length b ≤ v
-rises_few low v [] h is = omega (arith, h)
-rises_few low v (p ∷ b) h is = omega (arith, is.0, rises_few (p + 1) v b (omega (arith, is.1)) is.2)
-
-pub set_below : (v : ℕ) (b : List ℕ) → IsSet v b → Each (λ p. p < v) b
-set_below v b is = rises_below 0 v b (set_is_block v b is)
-
-pub set_few : (v : ℕ) (b : List ℕ) → IsSet v b → length b ≤ v
-set_few v b is = omega (arith, rises_few 0 v b (omega arith) (set_is_block v b is))
 
 -- the line `group`
 pub group_short : (fs : List ℕ) → IsShape fs → length (spaced (codes "group" ∷ map decimal fs)) < 1024
@@ -161,28 +128,3 @@ pub member_short : (fs : List ℕ) (v : ℕ) (ks : List ℕ) (family : List Memb
     → n < length family → m ≡ get_or family n m → length (spaced (member_tokens fs m)) < 1024
 member_short fs v ks family n m is few sizes all l e =
     block_line_short fs (kind_text m.kind) v ks m.block is few (kind_short m.kind) (each_from (IsSize v) ks sizes) (subst (λ (m : Member). IsBlock v ks m.block) (sym e) (all n m l))
-
--- the canonical generators are below the order
-from_below : (n : ℕ) (fs taken es : List ℕ) → Each (λ e. e < n) taken → Each (λ e. e < n) es → Each (λ e. e < n) (canonical_from fs taken es)
-from_below n fs taken [] t each = t
-from_below n fs taken (e ∷ es) t each =
-    elim (has_member (generated fs taken) e) as (λ v. Each (λ e. e < n) (canonical_from fs (cond v taken (taken ++ e ∷ [])) es)) [
-      | true ↦ from_below n fs taken es t each.1
-      | false ↦ from_below n fs (taken ++ e ∷ []) es (each_append (λ e. e < n) taken (e ∷ []) t (each.0, tt)) each.1
-    ]
-
-pub all_from : {X : Type 0} (P : X → Type 0) (xs : List X) → Each P xs → All P xs
-all_from P [] each = λ k d h. absurd (omega (arith, h))
-all_from {X = X} P (x ∷ xs) each = at (all_from P xs each.1) where
-  at : All P xs → (k : ℕ) (d : X) → k < length (x ∷ xs) → P (get_or (x ∷ xs) k d)
-  at rest zero d h = each.0
-  at rest (suc k) d h = rest k d (omega (arith, h))
-
-pub canonical_each : (fs members : List ℕ) → IsShape fs → IsSubgroup fs members → Each (λ e. e < order_of fs) (canonical_of fs members)
-unfolding canonical_of
-canonical_each fs members is group =
-    let closed = (are_subgroups fs is).closed members group in
-    from_below (order_of fs) fs [] members tt (set_below (order_of fs) members closed.set)
-
-pub canonical_below : (fs members : List ℕ) → IsShape fs → IsSubgroup fs members → All (λ e. e < order_of fs) (canonical_of fs members)
-canonical_below fs members is group = all_from (λ e. e < order_of fs) (canonical_of fs members) (canonical_each fs members is group)

@@ -1,21 +1,19 @@
 -- Printed names and subgroup words, read back.
-use Rattle.std.proofs.Common.{◌≡◌, ◌≢◌, ℕ, zero, suc, ◌+◌, ◌<◌, ◌≤◌, Bool, true, false, cond, not, ltb, ◌||◌, List, [], ◌∷◌, ◌++◌, length, map, get_or, position, Option, Some, None, option_map, is_some, Ok, Result, codes, bytes_eq, refl, sym, ap, ◌∙◌, subst, arith, tests}
+use Rattle.std.proofs.Common.{◌≡◌, ℕ, zero, suc, ◌<◌, Bool, true, false, ltb, ◌||◌, List, [], ◌∷◌, length, map, get_or, Some, None, Ok, codes, bytes_eq, refl, sym, ap, arith, tests}
 use Rattle.std.specs.List.{position_or_len}
 use Rattle.std.proofs.lemmas.Slice.Eq.{bytes_eq-Decides}
 use Rattle.df_io.specs.Joined.{Each}
-use Rattle.df_group.specs.Elements.{order_of, IsShape}
-use Rattle.df_group.specs.Subgroups.{generated, canonical_of, IsSubgroup}
+use Rattle.df_group.specs.Elements.{IsShape}
+use Rattle.df_group.specs.Subgroups.{canonical_of}
 use Rattle.df_group.proofs.SubgroupLaws.{are_subgroups}
-use Rattle.df_lang.specs.declared.fault.SourceFault.{SourceFault}
-use Rattle.df_lang.specs.declared.fault.SourceFault.TheVariants.{UnknownName}
 use Rattle.df_lang.specs.declared.parts.Which.{Which}
 use Rattle.df_lang.specs.declared.parts.Which.TheVariants as which
 use Rattle.df_lang.specs.Names.{is_name, is_reserved}
 use Rattle.df_lang.specs.Problems.{Named, IsNamed, IsWord, DifferInName}
-use Rattle.df_lang.specs.Values.{place_of, is_taken, name_of, subgroup_of, which_of}
+use Rattle.df_lang.specs.Values.{place_of, name_of, subgroup_of, which_of}
 use Rattle.df_lang.specs.Canonical.{element_text, which_text}
 use Rattle.df_lang.proofs.InOrder.{InOrder}
-use Rattle.df_lang.proofs.LinesShort.{canonical_each}
+use Rattle.df_lang.proofs.GeneratorsBelow.{canonical_each}
 use Rattle.df_lang.proofs.PointsBack.{elements_back}
 
 same_bytes : (xs : List ℕ) → bytes_eq xs xs ≡ true

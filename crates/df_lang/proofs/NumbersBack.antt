@@ -1,14 +1,15 @@
 -- Printed numbers, read back.
-use Rattle.std.proofs.Common.{◌≡◌, ℕ, ◌+◌, ◌*◌, ◌^◌, ◌<◌, ◌≤◌, true, false, ltb, leb, suc, List, [], ◌∷◌, ◌++◌, length, map, All, Some, Ok, decimal, refl, sym, ap, ◌∙◌, arith, tests, append-nil, append_assoc, length-append, mul_assoc, mul-le-mul, ◌%◌, ◌&&◌}
+use Rattle.std.proofs.Common.{◌≡◌, ℕ, ◌+◌, ◌*◌, ◌^◌, ◌<◌, ◌≤◌, true, ltb, leb, suc, List, [], ◌∷◌, ◌++◌, length, map, All, Some, Ok, decimal, refl, sym, ap, ◌∙◌, arith, tests, append-nil, append_assoc, length-append, mul_assoc, mul-le-mul, ◌%◌}
 use Rattle.df_io.specs.Joined.{Each}
 use Rattle.df_io.proofs.NumbersBack.{number_back as read_back}
-use Rattle.df_lists.specs.NumberSets.{has_member, with_member}
-use Rattle.df_group.specs.Elements.{order_of, IsFactor, IsShape}
+use Rattle.df_group.specs.Elements.{order_of, IsFactor}
 use Rattle.df_group.specs.Subgroups.{is_unit}
+use Rattle.df_group.proofs.ElementLaws.{positive_factors, order_some}
 use Rattle.df_lang.specs.declared.fault.SourceFault.{SourceFault}
 use Rattle.df_lang.specs.declared.fault.SourceFault.TheVariants.{SizeRange}
 use Rattle.df_lang.specs.Rules.{value_read, value_of, number_of, number_in, one_number}
-use Rattle.df_lang.specs.Values.{factors_from, mults_from, sizes_from, fits}
+use Rattle.df_lang.specs.Values.{factors_from, mults_from, sizes_from}
+use Rattle.df_lang.proofs.Factors.{factors_step, order_push}
 use Rattle.df_lang.proofs.InOrder.{InOrder, Follows, follows_more, with_last, not_member}
 use Rattle.std.proofs.Math.Nat.{mod-eq_of_lt}
 
@@ -28,16 +29,6 @@ pub one_number_back : (low high : ℕ) (fault : SourceFault) (n : ℕ) → n < 2
 unfolding one_number
 one_number_back low high fault n h l u = rw (number_in_back low high fault n h l u) refl
 
-positive : (fs : List ℕ) → All IsFactor fs → 1 ≤ order_of fs
-positive [] each = omega arith
-positive (f ∷ fs) each =
-    let rest = positive fs (λ k d h. each (suc k) d (omega (arith, h))) in
-    omega (arith, mul-le-mul (each 0 0 (omega arith)).0 rest)
-
-order_push : (fs : List ℕ) (f : ℕ) → order_of (fs ++ f ∷ []) ≡ order_of fs * f
-order_push [] f = omega arith
-order_push (k ∷ ks) f = ap (λ n. k * n) (order_push ks f) ∙ sym (mul_assoc k (order_of ks) f)
-
 -- factors behind those that are kept
 pub factors_back : (kept fs : List ℕ) → All IsFactor fs → 0 < length kept + length fs → length kept + length fs ≤ 7 → order_of kept * order_of fs ≤ 128
     → factors_from kept (map decimal fs) ≡ Ok (kept ++ fs)
@@ -49,19 +40,13 @@ factors_back kept (f ∷ fs) each some few small =
     let is = each 0 0 (omega arith) in
     let others : All IsFactor fs = λ k d h. each (suc k) d (omega (arith, h)) in
     let assoc : order_of kept * f * order_of fs ≡ order_of kept * (f * order_of fs) = mul_assoc (order_of kept) f (order_of fs) in
-    let below : order_of kept * f * 1 ≤ order_of kept * f * order_of fs = mul-le-mul (omega arith) (positive fs others) in
-    let low = is.0 in
-    let high = is.1 in
+    let below : order_of kept * f * 1 ≤ order_of kept * f * order_of fs = mul-le-mul (omega arith) (order_some fs (positive_factors fs others)) in
     let fit : order_of kept * f ≤ 128 = omega (arith, assoc, below) in
     let more : order_of (kept ++ f ∷ []) * order_of fs ≤ 128 = omega (arith, ap (λ n. n * order_of fs) (order_push kept f), assoc) in
     let len = length-append kept (f ∷ []) in
-    let room : length kept < 7 = omega arith in
-    let a : leb 2 f ≡ true = grind (arith, tests) in
-    let b : leb f 128 ≡ true = grind (arith, tests) in
-    let c : ltb (length kept) 7 ≡ true = grind (arith, tests) in
-    let d : leb (order_of kept * f) 128 ≡ true = grind (arith, tests) in
-    let ih = factors_back (kept ++ f ∷ []) fs others (omega (arith, len)) (omega (arith, len)) more in
-    rw (value_back f (omega (arith, high)), a, b, c, d) (ih ∙ ap Ok (append_assoc kept (f ∷ []) fs))
+    sym (factors_step kept (decimal f) (map decimal fs) f (sym (number_back f (omega (arith, is.1)))) is.0 is.1 (omega arith) fit)
+    ∙ factors_back (kept ++ f ∷ []) fs others (omega (arith, len)) (omega (arith, len)) more
+    ∙ ap Ok (append_assoc kept (f ∷ []) fs)
 
 -- multipliers behind those that are kept
 pub mults_back : (e : ℕ) (kept ms : List ℕ) → e ≤ 128 → 0 < length kept + length ms → Each (λ m. m < e) ms → Each (λ m. is_unit e m ≡ true) ms → InOrder (λ m n. m ≡ n → ⊥) ms

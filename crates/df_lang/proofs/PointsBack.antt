@@ -1,23 +1,22 @@
 -- Printed elements, points and blocks, read back.
-use Rattle.std.proofs.Common.{◌≡◌, ℕ, ◌+◌, ◌-◌, ◌^◌, ◌<◌, ◌≤◌, Bool, true, false, not, ltb, leb, suc, List, [], ◌∷◌, ◌++◌, length, map, take, drop, All, Option, Some, None, Ok, Err, ok_or, decimal, codes, option_map, refl, sym, ap, ◌∙◌, inl, inr, arith, tests, append-nil, append_assoc, ◌&&◌}
+use Rattle.std.proofs.Common.{◌≡◌, ℕ, ◌+◌, ◌-◌, ◌^◌, ◌<◌, ◌≤◌, Bool, true, false, ltb, leb, suc, List, [], ◌∷◌, ◌++◌, length, map, All, Some, None, Ok, decimal, codes, option_map, refl, sym, ap, ◌∙◌, inl, inr, arith, tests, append-nil, append_assoc}
 use Rattle.std.proofs.Math.Bool.{and-false}
 use Rattle.std.specs.List.{slice_split, join_with_byte}
 use Rattle.std.proofs.lemmas.Bool.{cases_lt}
-use Rattle.std.proofs.lemmas.Fmt.{decimal_by_steps, decimal_nonempty}
+use Rattle.std.proofs.lemmas.Fmt.{decimal_by_steps}
 use Rattle.std.proofs.lemmas.List.Splits.{slice_split_none}
 use Rattle.df_io.specs.Joined.{Each, Lacks}
-use Rattle.df_io.specs.Number.{is_numeral, number_read}
+use Rattle.df_io.specs.Number.{is_numeral}
 use Rattle.df_io.proofs.Joining.{split_join}
-use Rattle.df_lists.specs.NumberSets.{has_member, with_member}
+use Rattle.df_lists.specs.NumberSets.{has_member}
 use Rattle.df_group.specs.Elements.{order_of, number, residues, IsElement, IsFactor, IsShape}
-use Rattle.df_group.proofs.ElementLaws.{ArePositive, positive_shape, residues_are, number_residues}
-use Rattle.df_lang.specs.declared.fault.SourceFault.{SourceFault}
-use Rattle.df_lang.specs.declared.fault.SourceFault.TheVariants.{BlockSize, BadElement}
-use Rattle.df_lang.specs.Rules.{must, value_of, value_read}
+use Rattle.df_group.proofs.ElementLaws.{positive_shape, residues_are, number_residues}
+use Rattle.df_lang.specs.declared.fault.SourceFault.TheVariants.{BlockSize}
+use Rattle.df_lang.specs.Rules.{must, value_of}
 use Rattle.df_lang.specs.Values.{residues_of, element_of, fixed_point, point_of, elements_from, points_from, is_comma}
 use Rattle.df_lang.specs.Canonical.{element_text, fixed_text, point_text}
 use Rattle.df_lang.proofs.InOrder.{InOrder, Follows, follows_more, follows_none, with_last, last_is_new}
-use Rattle.df_lang.proofs.LinesShort.{each_append, each_so, all_from}
+use Rattle.df_lang.proofs.EachMember.{each_append, each_so, all_from}
 use Rattle.df_lang.proofs.NumbersBack.{value_back}
 
 -- each byte of a printed number is a digit, and so above the comma

@@ -1,7 +1,6 @@
 -- The sections of the canonical lines, read back one after the other.
-use Rattle.std.proofs.Common.{◌≡◌, ◌≢◌, ℕ, suc, ◌+◌, ◌-◌, ◌^◌, ◌<◌, ◌≤◌, min, Bool, true, false, cond, eqb, ltb, List, [], ◌∷◌, ◌++◌, length, map, All, Option, Some, None, IfSome, Ok, decimal, codes, inl, inr, ◌⊎◌, refl, sym, ap, ◌∙◌, subst, arith, tests, append-nil, append_assoc, length-append}
+use Rattle.std.proofs.Common.{◌≡◌, ◌≢◌, ℕ, ◌+◌, ◌<◌, ◌≤◌, min, true, false, eqb, ltb, List, [], ◌∷◌, ◌++◌, length, map, Option, Some, None, IfSome, Ok, decimal, codes, inl, inr, refl, sym, ap, ◌∙◌, subst, arith, tests, append-nil, append_assoc, length-append}
 use Rattle.df_io.specs.Joined.{Each}
-use Rattle.df_lists.specs.NumberSets.{has_member}
 use Rattle.df_subsets.proofs.BlockLaws.{set_is_block}
 use Rattle.df_group.specs.Elements.{order_of}
 use Rattle.df_group.specs.Subgroups.{exponent_of, is_unit}
@@ -14,16 +13,17 @@ use Rattle.df_lang.specs.declared.parts.Kind.TheVariants as kind
 use Rattle.df_lang.specs.declared.canonical.Section.TheVariants as section
 use Rattle.df_lang.specs.Problems.{Stated, Named, IsStated, IsNamed, IsInside, IsMultiplier, IsSize, IsBlock, DifferInName, point_count}
 use Rattle.df_lang.specs.Rules.{◌>>=◌}
-use Rattle.df_lang.specs.StandsAbove.{Above, nothing}
+use Rattle.df_lang.specs.StandsAbove.{nothing}
 use Rattle.df_lang.specs.Values.{sizes_read, inside_of, points_from}
 use Rattle.df_lang.specs.Statements.{step, statement_line, meaning, subgroup_line, mult_line, size_line, inside_line, block_of, member_line, require_line, forbid_line}
 use Rattle.df_lang.specs.Canonical.{number_tokens, which_text, subgroup_tokens, mult_statements, inside_statements, block_tokens, member_tokens, point_text, statements_in, statements_of}
 use Rattle.df_lang.proofs.InOrder.{InOrder, Follows, follows_more, follows_none, order_from_pairs, order_from_rises}
-use Rattle.df_lang.proofs.LinesShort.{each_from, each_so, set_below}
+use Rattle.df_lang.proofs.EachMember.{each_from, each_so}
+use Rattle.df_lang.proofs.SetsBelow.{set_below}
 use Rattle.df_lang.proofs.NumbersBack.{number_in_back, mults_back, sizes_back}
 use Rattle.df_lang.proofs.PointsBack.{points_back}
 use Rattle.df_lang.proofs.NamesBack.{subgroup_back, which_back}
-use Rattle.df_lang.proofs.StepsBack.{after, after_append, with_group, with_fixed, with_names, with_shift, stated_mults, with_mults, with_sizes, with_lambda, with_inside, with_hole, with_family, with_required, with_forbidden, group_step, group_first, version_step, fixed_step, shift_step, lambda_step, hole_step}
+use Rattle.df_lang.proofs.StepsBack.{after, after_append, with_group, with_names, with_shift, stated_mults, with_mults, with_lambda, with_inside, with_family, with_required, with_forbidden, group_step, group_first, version_step, fixed_step, shift_step, lambda_step, hole_step}
 
 module _ (s : Stated) (is : IsStated s) where
   -- the lines `subgroup`

@@ -1,11 +1,11 @@
 -- The source of a problem's canonical lines, read back.
-use Rattle.std.proofs.Common.{◌≡◌, ℕ, ◌+◌, ◌-◌, ◌^◌, ◌<◌, ◌≤◌, Bool, true, false, cond, eqb, ltb, List, [], ◌∷◌, ◌++◌, length, length-append, map, get_or, zero, suc, unwrap_or, take, All, Option, Some, None, IfSome, Ok, Err, Result, decimal, codes, inl, inr, refl, sym, ap, ◌∙◌, arith, tests, ◌&&◌}
-use Rattle.std.specs.List.{flat_map, join_with_byte, list_any, list_all}
+use Rattle.std.proofs.Common.{◌≡◌, ℕ, ◌+◌, ◌-◌, ◌^◌, ◌<◌, ◌≤◌, Bool, true, false, cond, eqb, ltb, List, [], ◌∷◌, ◌++◌, length, length-append, map, get_or, zero, suc, unwrap_or, take, Option, Some, None, IfSome, Ok, Err, Result, decimal, codes, inl, inr, refl, ap, ◌∙◌, arith, tests, ◌&&◌}
+use Rattle.std.specs.List.{join_with_byte, list_any, list_all}
 use Rattle.std.proofs.lemmas.Bool.{cases_lt}
 use Rattle.std.proofs.lemmas.Fmt.{decimal_nonempty}
 use Rattle.std.proofs.lemmas.List.{length-map}
-use Rattle.df_io.specs.Lines.{lines_of, tokens_of, is_blank, is_hash}
-use Rattle.df_io.specs.Joined.{Each, Lacks, IsToken, is_line_feed, spaced, text_of}
+use Rattle.df_io.specs.Lines.{tokens_of, is_blank, is_hash}
+use Rattle.df_io.specs.Joined.{Each, Lacks, IsToken, is_line_feed, spaced}
 use Rattle.df_io.proofs.Joining.{lines_back, tokens_back}
 use Rattle.df_group.specs.Elements.{order_of, residues, IsFactor, IsShape}
 use Rattle.df_group.specs.Subgroups.{canonical_of}
@@ -19,7 +19,7 @@ use Rattle.df_lang.specs.declared.parts.Kind.{Kind}
 use Rattle.df_lang.specs.declared.parts.Kind.TheVariants as kind
 use Rattle.df_lang.specs.declared.canonical.Section.{Section}
 use Rattle.df_lang.specs.declared.canonical.Section.TheVariants as section
-use Rattle.df_lang.specs.Names.{is_name, is_letter, is_name_byte}
+use Rattle.df_lang.specs.Names.{is_letter, is_name_byte}
 use Rattle.df_lang.specs.Problems.{Stated, Named, IsStated, IsNamed, IsWord, IsInside, IsMultiplier, IsSize, IsBlock, point_count}
 use Rattle.df_lang.specs.Rules.{◌>>=◌}
 use Rattle.df_lang.specs.StandsAbove.{Above, nothing}
@@ -30,8 +30,9 @@ use Rattle.df_lang.specs.Separated.{behind}
 use Rattle.df_lang.specs.RoundTrip.{CanonicalLinesReadBack}
 use Rattle.df_lang.proofs.Behind.{join_behind}
 use Rattle.df_lang.proofs.Lengths.{residues_small, residues_length}
-use Rattle.df_lang.proofs.LinesShort.{each_from, each_append, each_map, each_so, set_below}
-use Rattle.df_lang.proofs.CanonicalShort.{each_flat_map}
+use Rattle.df_lang.proofs.EachMember.{each_from, each_append, each_map, each_so}
+use Rattle.df_lang.proofs.SetsBelow.{set_below}
+use Rattle.df_lang.proofs.EachMember.{each_flat_map}
 use Rattle.df_lang.proofs.PointsBack.{decimal_high, lacks_from}
 use Rattle.df_lang.proofs.StepsBack.{after, stated_mults, with_forbidden}
 use Rattle.df_lang.proofs.SectionsBack.{statements_after}

@@ -1,28 +1,19 @@
 -- The statements of a problem, read back one after the other.
-use Rattle.std.proofs.Common.{◌≡◌, ◌≢◌, ℕ, ◌+◌, ◌-◌, ◌^◌, ◌<◌, ◌≤◌, min, Bool, true, false, cond, eqb, ltb, List, [], ◌∷◌, ◌++◌, length, map, All, Option, Some, None, IfSome, Ok, Err, Result, decimal, codes, inl, inr, ⊎_elim, ◌⊎◌, refl, sym, ap, ◌∙◌, subst, arith, tests, append-nil, append_assoc, length-append}
-use Rattle.df_io.specs.Joined.{Each}
-use Rattle.df_lists.specs.NumberSets.{has_member, IsSet}
-use Rattle.df_subsets.proofs.BlockLaws.{set_is_block}
-use Rattle.df_group.specs.Elements.{order_of, IsShape}
-use Rattle.df_group.specs.Subgroups.{exponent_of, is_unit}
-use Rattle.df_group.proofs.ExponentLaws.{exponent_high}
+use Rattle.std.proofs.Common.{◌≡◌, ℕ, ◌-◌, min, List, [], ◌∷◌, ◌++◌, map, Option, Some, None, Ok, Err, Result, decimal, codes, refl, ap, arith}
+use Rattle.df_group.specs.Elements.{order_of}
 use Rattle.df_lang.specs.declared.fault.SourceFault.{SourceFault}
-use Rattle.df_lang.specs.declared.fault.SourceFault.TheVariants.{FixedRange, TargetRange, SizeRange, BlockSize}
-use Rattle.df_lang.specs.declared.parts.Which.{Which}
-use Rattle.df_lang.specs.declared.parts.Inside.{Inside}
+use Rattle.df_lang.specs.declared.fault.SourceFault.TheVariants.{FixedRange, TargetRange}
 use Rattle.df_lang.specs.declared.parts.Member.{Member}
-use Rattle.df_lang.specs.declared.parts.Kind.TheVariants as kind
-use Rattle.df_lang.specs.Problems.{Stated, Named, IsStated, IsNamed, IsInside, IsMultiplier, IsSize, IsBlock, IsFirstVersion, DifferInName, point_count}
+use Rattle.df_lang.specs.Problems.{Stated, Named, IsStated, IsNamed, DifferInName}
 use Rattle.df_lang.specs.Rules.{◌>>=◌, one_number}
 use Rattle.df_lang.specs.StandsAbove.{Above, nothing}
-use Rattle.df_lang.specs.Values.{sizes_read, shift_of, inside_of}
-use Rattle.df_lang.specs.Statements.{step, first_line, statement_line, meaning, version_line, group_line, fixed_line, subgroup_line, shift_line, mult_line, size_line, lambda_line, inside_line, hole_line, block_of, member_line, require_line, forbid_line}
-use Rattle.df_lang.specs.Canonical.{number_tokens, subgroup_tokens, mult_statements, inside_statements, which_text, block_tokens, member_tokens, point_text}
-use Rattle.df_lang.proofs.InOrder.{InOrder, Follows, follows_more, follows_none, order_from_pairs, order_from_rises}
-use Rattle.df_lang.proofs.LinesShort.{each_from, each_so, set_below}
-use Rattle.df_lang.proofs.NumbersBack.{one_number_back, number_in_back, factors_back, mults_back, sizes_back}
-use Rattle.df_lang.proofs.PointsBack.{points_back}
-use Rattle.df_lang.proofs.NamesBack.{subgroup_back, which_back}
+use Rattle.df_lang.specs.Values.{shift_of}
+use Rattle.df_lang.specs.Statements.{step, first_line, statement_line, meaning, version_line, group_line, fixed_line, shift_line, lambda_line, hole_line}
+use Rattle.df_lang.specs.Canonical.{number_tokens, which_text}
+use Rattle.df_lang.proofs.InOrder.{order_from_pairs}
+use Rattle.df_lang.proofs.EachMember.{each_from}
+use Rattle.df_lang.proofs.NumbersBack.{one_number_back, factors_back}
+use Rattle.df_lang.proofs.NamesBack.{which_back}
 
 -- what stands above after some statements, or the first fault, without the numbers of lines
 abbrev pub after : Above → List (List (List ℕ)) → Result Above SourceFault

@@ -39,7 +39,7 @@ pub use fault::{Needed, ParseError, SourceError, SourceFault};
 pub use parts::{Inside, Kind, Member, Name, Which};
 pub use problem::Problem;
 pub use read_points::read_point;
-pub use round_trip::canonical_lines_are_read_back;
+pub use round_trip::{canonical_lines_are_read_back, problem_is_read_back};
 pub use sources::parse;
 pub use targets::target;
 pub use texts::{block_text_is_short, point_text_is_short, put_block, put_point};

@@ -1,10 +1,11 @@
-use Rattle.std.proofs.Common.{◌≡◌, ◌≤◌, ◌<◌, ◌∷◌, [], codes, decimal, get_or, length, map, sym, ap, ◌∙◌, subst, arith}
+use Rattle.std.proofs.Common.{◌<◌, ◌∷◌, codes, decimal, get_or, length, map, ap, ◌∙◌, subst, arith}
 use Rattle.std.proofs.lemmas.List.{length-map}
 use Rattle.df_io.specs.Joined.{spaced}
 use Rattle.df_lang.specs.declared.canonical.Section.{Section}
 use Rattle.df_lang.specs.Problems.{Stated, IsStated, IsNamed, point_count}
 use Rattle.df_lang.specs.Canonical.{statements_in, block_tokens, member_tokens, subgroup_tokens}
-use Rattle.df_lang.proofs.LinesShort.{each_from, group_short, number_line_short, mult_short, sizes_short, inside_short, listed_short, member_short}
+use Rattle.df_lang.proofs.EachMember.{each_from}
+use Rattle.df_lang.proofs.LinesShort.{group_short, number_line_short, mult_short, sizes_short, inside_short, listed_short, member_short}
 use Rattle.df_lang.proofs.canonical.put_statement.Goals as goal
 
 pub put_numbers_statement-requires : goal.put_numbers_statement-requires

@@ -1,5 +1,4 @@
-use Rattle.std.proofs.Common.{◌≡◌, ◌++◌, ◌∷◌, map, drop, decimal}
-use Rattle.df_io.specs.Joined.{spaced}
+use Rattle.std.proofs.Common.{◌≡◌, ◌++◌, map, drop, decimal}
 use Rattle.df_lang.specs.Separated.{behind}
 use Rattle.df_lang.proofs.put.put_sizes_behind.Given as goal
 

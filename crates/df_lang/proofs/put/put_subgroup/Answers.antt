@@ -2,7 +2,7 @@ use Rattle.std.proofs.Common.{◌<◌, ◌++◌, ◌∷◌, ℕ, List, All, code
 use Rattle.df_io.specs.Joined.{spaced}
 use Rattle.df_group.specs.Elements.{order_of}
 use Rattle.df_lang.specs.Canonical.{element_text}
-use Rattle.df_lang.proofs.LinesShort.{canonical_below}
+use Rattle.df_lang.proofs.GeneratorsBelow.{canonical_below}
 use Rattle.df_lang.proofs.put.put_subgroup.Goals as goal
 
 pub put_subgroup_statement-requires-clause-elements : goal.put_subgroup_statement-requires-clause-elements

@@ -1,4 +1,4 @@
-use Rattle.std.proofs.Common.{◌++◌, ◌∷◌, codes, length, map, ap, ◌∙◌, arith, append_assoc, length-append}
+use Rattle.std.proofs.Common.{◌++◌, ◌∷◌, codes, map, ap, ◌∙◌, arith, append_assoc}
 use Rattle.df_io.specs.Joined.{spaced}
 use Rattle.df_lang.specs.Canonical.{element_text}
 use Rattle.df_lang.proofs.Behind.{room_behind, whole_behind}
