@@ -1,6 +1,6 @@
 -- The divisor of the last entries of a row, one entry at a time.
-use Rattle.std.proofs.Common.{◌≡◌, ℕ, suc, zero, ◌+◌, ◌-◌, ◌<◌, ◌≤◌, List, [], ◌∷◌, length, get_or, drop, refl, sym, ap, ◌∙◌, subst, arith}
-use Rattle.std.specs.Int.{IsGcd, ◌∣◌}
+use Rattle.std.proofs.Common.{◌≡◌, ℕ, suc, zero, ◌+◌, ◌-◌, ◌<◌, ◌≤◌, List, [], ◌∷◌, length, get_or, drop, ap, ◌∙◌, arith}
+use Rattle.std.specs.Int.{IsGcd}
 use Rattle.std.proofs.Math.Nat.{one-dvd}
 use Rattle.std.proofs.lemmas.List.{drop_more}
 use Rattle.std.proofs.lemmas.Nat.Gcd.{dvd_refl}

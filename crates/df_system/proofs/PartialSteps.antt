@@ -1,9 +1,9 @@
 -- What decisions do to the tallies of a partial assignment.
-use Rattle.std.proofs.Common.{◌≡◌, ℕ, suc, zero, ◌+◌, ◌-◌, ◌^◌, ◌<◌, ◌≤◌, Bool, true, false, not, List, [], ◌∷◌, length, get_or, set, Option, Some, None, refl, sym, ap, ◌∙◌, subst, arith}
-use Rattle.std.specs.Prelude.{slice_get, replicate, ◌==◌}
-use Rattle.std.proofs.lemmas.Bool.{not-false, not-true, cases_Bool}
-use Rattle.df_walk.specs.Systems.{System, entries, entry_of, cells, target}
-use Rattle.df_walk.specs.Assignments.{Decisions, taken, cap, is_over, is_under, is_met, is_settled, least_row}
+use Rattle.std.proofs.Common.{◌≡◌, ℕ, ◌+◌, ◌-◌, ◌^◌, ◌<◌, Bool, true, false, List, [], length, set, Some, None, refl, sym, ap, ◌∙◌, arith}
+use Rattle.std.specs.Prelude.{slice_get}
+use Rattle.std.proofs.lemmas.Bool.{not-false, not-true}
+use Rattle.df_walk.specs.Systems.{System, entries, entry_of, cells}
+use Rattle.df_walk.specs.Assignments.{Decisions, taken, cap, is_met, is_settled, least_row}
 use Rattle.df_walk.proofs.DecisionLaws.{taken-set_yes, taken-set_no, cap-set, taken_cap_le}
 use Rattle.df_walk.proofs.EntryLaws.{entry_is}
 use Rattle.df_walk.proofs.RowTests.{least_row_is, least_row_none, rows_pass, row_fails}

@@ -1,10 +1,10 @@
 -- The entry of a row among cells in the order of their rows.
-use Rattle.std.proofs.Common.{◌≡◌, ◌≢◌, ℕ, suc, zero, ◌+◌, ◌-◌, ◌<◌, ◌≤◌, cond, eqb, List, [], ◌∷◌, length, get_or, map, refl, sym, ap, ◌∙◌, arith, inl, inr, subst}
+use Rattle.std.proofs.Common.{◌≡◌, ◌≢◌, ℕ, suc, zero, ◌+◌, ◌-◌, ◌<◌, ◌≤◌, List, [], ◌∷◌, length, get_or, map, refl, arith, inl, inr, subst}
 use Rattle.std.specs.List.Sorted.{IsStrictlyIncreasing}
 use Rattle.std.proofs.lemmas.Bool.{eq-eqb, ne_eqb, cases_eq, cases_order}
 use Rattle.std.proofs.lemmas.List.{length-map}
 use Rattle.df_walk.specs.declared.Cell.{Cell}
-use Rattle.df_walk.specs.Systems.{entry_of, AreCells}
+use Rattle.df_walk.specs.Systems.{entry_of}
 
 -- what stands past the end
 abbrev pub blank : Cell

@@ -1,5 +1,5 @@
 -- The columns of a stored system.
-use Rattle.std.proofs.Common.{◌≡◌, ℕ, suc, zero, ◌+◌, ◌-◌, ◌<◌, ◌≤◌, List, [], ◌∷◌, ◌++◌, length, get_or, map, take, drop, refl, sym, ap, ◌∙◌, arith}
+use Rattle.std.proofs.Common.{◌≡◌, ℕ, suc, zero, ◌+◌, ◌-◌, ◌<◌, ◌≤◌, List, [], ◌∷◌, ◌++◌, length, get_or, map, take, refl, sym, ap, ◌∙◌, arith}
 use Rattle.std.specs.Prelude.{slice_range, All}
 use Rattle.std.specs.List.{AllByRecursion}
 use Rattle.std.specs.List.Sorted.{IsNonDecreasing}
@@ -9,7 +9,7 @@ use Rattle.std.proofs.lemmas.List.Elements.{All-from_recursion, recursion_from_A
 use Rattle.df_walk.specs.declared.Cell.{Cell}
 use Rattle.df_walk.specs.Systems.{IsColumn, entry_of}
 use Rattle.df_walk.specs.Assignments.{cap}
-use Rattle.df_system.specs.Storage.{parts_from, columns_of, AreStarts, IsStored, stored}
+use Rattle.df_system.specs.Storage.{parts_from, columns_of, AreStarts, IsStored}
 
 parts_count : (start : ℕ) (ends : List ℕ) (cells : List Cell) → length (parts_from start ends cells) ≡ length ends
 parts_count start [] cells = refl

@@ -15,3 +15,6 @@ pub use system::{System, SystemError};
 
 /// Want of memory.
 pub type OutOfMemory = std::alloc::AllocError;
+
+#[cfg(test)]
+mod tests;

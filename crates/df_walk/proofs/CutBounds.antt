@@ -1,17 +1,16 @@
 -- A cut leaves no solution.
-use Rattle.std.proofs.Common.{◌≡◌, ℕ, suc, zero, ◌+◌, ◌<◌, Bool, true, false, List, [], ◌∷◌, length, map, Some, None, refl, sym, ap, ◌∙◌, arith, inl, inr}
+use Rattle.std.proofs.Common.{◌≡◌, ℕ, suc, zero, ◌<◌, Bool, true, false, List, [], ◌∷◌, length, map, Some, None, refl, sym, ◌∙◌, arith, inl, inr}
 use Rattle.std.specs.Prelude.{ℤ, pos, negsuc, ◌+ℤ◌, ◌-ℤ◌, ◌*ℤ◌, ◌≤ℤ◌, ◌<ℤ◌, int_lt}
 use Rattle.std.specs.Int.{int_min, int_max}
 use Rattle.std.specs.List.{AllByRecursion}
 use Rattle.std.proofs.Math.IntN.{zero-*ℤ, *ℤ-zero, suc_ℤ-*ℤ, pred_ℤ-*ℤ}
 use Rattle.std.proofs.lemmas.Bool.{false≢true, or_cases}
 use Rattle.std.proofs.lemmas.Int.{ints, clamps}
-use Rattle.df_walk.specs.declared.Cell.{Cell}
 use Rattle.df_walk.specs.declared.CutRow.{CutRow}
-use Rattle.df_walk.specs.Systems.{System, entry_of, entries, target}
+use Rattle.df_walk.specs.Systems.{System, entry_of}
 use Rattle.df_walk.specs.Assignments.{Decisions, open_values, taken, need}
 use Rattle.df_walk.specs.Solutions.{keeps, product, solutions_with}
-use Rattle.df_walk.specs.Cuts.{weighted_need, weight_of, negatives, positives, open_weights, least_weight, greatest_weight, is_cut}
+use Rattle.df_walk.specs.Cuts.{weighted_need, weight_of, negatives, positives, least_weight, greatest_weight}
 use Rattle.df_walk.specs.Logs.{CutPasses}
 use Rattle.df_walk.proofs.NoSolutions.{KeepsAndSolves, none_solves}
 

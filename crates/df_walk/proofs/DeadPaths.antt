@@ -1,9 +1,9 @@
 -- Below a path that is over or under, or has a residue, no path is live.
-use Rattle.std.proofs.Common.{◌≡◌, ◌≢◌, ℕ, suc, zero, ◌+◌, ◌*◌, ◌%◌, ◌<◌, ◌≤◌, Bool, true, false, not, List, [], ◌∷◌, ◌++◌, length, refl, sym, ap, ◌∙◌, arith, inl, inr}
-use Rattle.std.specs.Prelude.{◌&&◌, ◌||◌, nat_lt}
+use Rattle.std.proofs.Common.{◌≡◌, ℕ, ◌+◌, ◌*◌, ◌%◌, ◌<◌, ◌≤◌, Bool, true, false, not, List, [], ◌∷◌, ◌++◌, refl, sym, ap, ◌∙◌, arith, inl, inr}
+use Rattle.std.specs.Prelude.{◌&&◌}
 use Rattle.std.specs.Int.{◌∣◌}
 use Rattle.std.specs.List.{list_all, list_any}
-use Rattle.std.proofs.lemmas.Bool.{true≢false, false≢true, le-ltb, lt-ltb, ltb-true, eqb-true, eq-eqb, ne_eqb, and_parts, and_from, and_left, and_right, or_parts, not_from_true, not_from_false, cases_eq, cases_order}
+use Rattle.std.proofs.lemmas.Bool.{le-ltb, lt-ltb, ltb-true, eqb-true, eq-eqb, ne_eqb, and_parts, and_from, and_left, and_right, or_parts, not_from_true, not_from_false, cases_eq, cases_order}
 use Rattle.std.proofs.Math.Nat.{add-mul-mod_self_right, mod-mod_of_dvd}
 use Rattle.std.proofs.lemmas.List.{append-nil}
 use Rattle.std.proofs.lemmas.Nat.Gcd.{le_of_dvd}
@@ -12,7 +12,7 @@ use Rattle.df_walk.specs.declared.Rules.TheVariants.{Plain, Divisor}
 use Rattle.df_walk.specs.declared.Entry.{Entry}
 use Rattle.df_walk.specs.declared.Entry.TheVariants.{Branch, Over, Under, Settled, Residue, Cut}
 use Rattle.df_walk.specs.Systems.{System, rows_of, entries, target}
-use Rattle.df_walk.specs.Assignments.{Decisions, open_values, is_multiple, total, common_divisor, taken, cap, divisor, is_over, is_under, is_met, leaves_rest, has_residue, is_settled}
+use Rattle.df_walk.specs.Assignments.{Decisions, open_values, is_multiple, taken, cap, divisor, is_over, is_under, is_met, leaves_rest, has_residue, is_settled}
 use Rattle.df_walk.specs.Logs.{RowPasses}
 use Rattle.df_walk.specs.Walks.{decided}
 use Rattle.df_walk.specs.Paths.{is_live_row, is_live}

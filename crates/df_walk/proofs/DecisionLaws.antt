@@ -1,5 +1,5 @@
 -- What one decision does to what is taken and to the cap.
-use Rattle.std.proofs.Common.{◌≡◌, ℕ, suc, zero, ◌+◌, ◌*◌, ◌≤◌, Bool, true, false, List, [], ◌∷◌, length, get_or, set, drop, Option, Some, None, refl, ap, arith, ◌<◌}
+use Rattle.std.proofs.Common.{◌≡◌, ℕ, suc, zero, ◌+◌, ◌*◌, ◌≤◌, Bool, true, false, List, [], ◌∷◌, length, get_or, set, drop, Some, None, refl, ap, arith, ◌<◌}
 use Rattle.std.specs.Prelude.{slice_get}
 use Rattle.df_walk.specs.Systems.{System, entries, entry}
 use Rattle.df_walk.specs.Assignments.{Decisions, open_values, taken, cap}

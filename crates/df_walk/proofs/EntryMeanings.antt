@@ -1,8 +1,7 @@
 -- What the entry of a path says of it.
-use Rattle.std.proofs.Common.{◌≡◌, ℕ, suc, zero, ◌+◌, ◌<◌, ◌≤◌, Bool, true, false, not, List, [], ◌∷◌, ◌++◌, length, Option, Some, None, refl, sym, ap, ◌∙◌, arith}
-use Rattle.std.specs.Prelude.{◌&&◌, ◌||◌}
+use Rattle.std.proofs.Common.{◌≡◌, ℕ, ◌≤◌, Bool, true, false, List, [], ◌∷◌, length, Option, Some, None, refl, sym, ◌∙◌, arith}
 use Rattle.std.specs.List.{list_any, list_all}
-use Rattle.std.proofs.lemmas.Bool.{true≢false, ltb-false, eqb-true, eq-eqb, le-ltb, and_parts, and_from, or_parts}
+use Rattle.std.proofs.lemmas.Bool.{true≢false, ltb-false, eq-eqb, and_parts, and_from, or_parts}
 use Rattle.df_walk.specs.declared.Rules.{Rules}
 use Rattle.df_walk.specs.declared.Rules.TheVariants.{Plain, Divisor}
 use Rattle.df_walk.specs.declared.Entry.{Entry}
@@ -11,7 +10,7 @@ use Rattle.df_walk.specs.Systems.{System, rows_of, entries, target}
 use Rattle.df_walk.specs.Assignments.{Decisions, open_values, taken, cap, divisor, is_over, is_under, is_met, has_residue, leaves_rest, is_settled, least_over, least_under, least_residue}
 use Rattle.df_walk.specs.Logs.{RowPasses, is_residue}
 use Rattle.df_walk.specs.Walks.{decided, entry_from, entry_at}
-use Rattle.df_walk.proofs.CommonDivisors.{IsCommonDivisor, common_divisor_common}
+use Rattle.df_walk.proofs.CommonDivisors.{common_divisor_common}
 use Rattle.df_walk.proofs.EntryLaws.{length-entries}
 use Rattle.df_walk.proofs.RowTests.{least_row_passes, none_found}
 

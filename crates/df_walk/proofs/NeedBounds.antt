@@ -1,10 +1,10 @@
 -- The needs of a solution that keeps the decisions, and that each solution is listed once.
-use Rattle.std.proofs.Common.{◌≡◌, ℕ, suc, zero, ◌+◌, ◌*◌, ◌<◌, ◌≤◌, Bool, true, false, List, [], ◌∷◌, length, map, Some, refl, sym, ap, ◌∙◌, arith}
+use Rattle.std.proofs.Common.{◌≡◌, ℕ, ◌<◌, Bool, true, false, List, [], ◌∷◌, length, map, Some, refl, sym, ap, ◌∙◌, arith}
 use Rattle.std.specs.Prelude.{filter, ◌&&◌}
 use Rattle.std.proofs.lemmas.Bool.{false≢true, and_parts, and_from}
-use Rattle.df_walk.specs.Systems.{System, entries, target}
-use Rattle.df_walk.specs.Assignments.{Decisions, open_values, taken, cap, divisor}
-use Rattle.df_walk.specs.Solutions.{keeps, product, is_solution, solutions, vectors}
+use Rattle.df_walk.specs.Systems.{System, entries}
+use Rattle.df_walk.specs.Assignments.{Decisions, open_values, divisor}
+use Rattle.df_walk.specs.Solutions.{keeps, is_solution, solutions, vectors}
 use Rattle.df_walk.specs.LawStatements.{NeedIsWithin}
 use Rattle.df_walk.proofs.VectorFilters.{vectors_one}
 use Rattle.df_walk.proofs.DecisionSplits.{filter-filter}

@@ -1,19 +1,18 @@
 -- A walk cut at a path that it comes by: what comes before it, then what remains there.
-use Rattle.std.proofs.Common.{◌≡◌, ℕ, suc, zero, ◌+◌, ◌-◌, ◌≤◌, Bool, true, false, not, List, [], ◌∷◌, ◌++◌, length, refl, sym, ap, ◌∙◌, arith, length-append}
+use Rattle.std.proofs.Common.{◌≡◌, ℕ, suc, zero, ◌+◌, ◌≤◌, Bool, true, false, not, List, [], ◌∷◌, ◌++◌, length, sym, ap, ◌∙◌, arith, length-append}
 use Rattle.std.specs.Prelude.{filter}
 use Rattle.std.proofs.lemmas.List.{append_assoc, append-nil}
 use Rattle.std.proofs.lemmas.List.Elements.{filter-append, filter_map-append}
 use Rattle.df_walk.specs.declared.Rules.{Rules}
 use Rattle.df_walk.specs.Systems.{System, IsSystem}
-use Rattle.df_walk.specs.Solutions.{solutions}
-use Rattle.df_walk.specs.Walks.{Step, entry_at, below, walk_from, walk, solution_of, solutions_in, node_of, nodes_in}
-use Rattle.df_walk.specs.Paths.{is_node, nodes, not_before, rest, load}
+use Rattle.df_walk.specs.Walks.{entry_at, below, walk_from, walk, solution_of, solutions_in, node_of, nodes_in}
+use Rattle.df_walk.specs.Paths.{is_node, not_before}
 use Rattle.df_walk.specs.Remains.{later_walk, walk_on, IsVisitedFrom, IsVisited}
 use Rattle.df_walk.specs.LawStatements.{earlier, IsCutAt}
 use Rattle.df_walk.proofs.WalkOrder.{on_path, walk_is, walk_passes, walk_fails, below_branch, not_before_self, not_before_prefix, not_before_no, not_before_yes, walk-not_before}
 use Rattle.df_walk.proofs.WalkSolutions.{solutions_in-walk}
 use Rattle.df_walk.proofs.RestSolutions.{solutions_in-walk_on}
-use Rattle.df_walk.proofs.WalkNodes.{nodes_in-walk, nodes_in-walk_on}
+use Rattle.df_walk.proofs.WalkNodes.{nodes_in-walk_on}
 use Rattle.df_walk.proofs.NodeVisits.{node_visited}
 
 -- the test of what comes before a path

@@ -1,5 +1,5 @@
 -- The walk's entries are a log that proves its solutions.
-use Rattle.std.proofs.Common.{◌≡◌, ℕ, suc, zero, ◌+◌, ◌-◌, ◌<◌, ◌≤◌, Bool, true, false, List, [], ◌∷◌, ◌++◌, length, map, Some, None, refl, sym, ap, ◌∙◌, subst, arith, length-append}
+use Rattle.std.proofs.Common.{◌≡◌, ℕ, suc, zero, ◌+◌, ◌-◌, ◌<◌, ◌≤◌, Bool, true, false, List, [], ◌∷◌, ◌++◌, length, map, Some, None, refl, ap, ◌∙◌, subst, arith, length-append}
 use Rattle.std.specs.Prelude.{replicate}
 use Rattle.std.proofs.lemmas.List.{map-append, length-map}
 use Rattle.std.proofs.lemmas.List.Elements.{filter_map-append}
@@ -7,10 +7,10 @@ use Rattle.df_walk.specs.declared.Rules.{Rules}
 use Rattle.df_walk.specs.declared.Entry.{Entry}
 use Rattle.df_walk.specs.declared.Entry.TheVariants.{Branch, Over, Under, Settled, Residue, Cut}
 use Rattle.df_walk.specs.Systems.{System}
-use Rattle.df_walk.specs.Solutions.{yes_columns_from, yes_columns, yes_vector, chosen_columns}
+use Rattle.df_walk.specs.Solutions.{yes_columns_from, yes_columns, chosen_columns}
 use Rattle.df_walk.specs.Walks.{Step, decided, walk_from, walk, below, entry_at, solution_of, solutions_in, entries_in}
 use Rattle.df_walk.specs.Remains.{padded}
-use Rattle.df_walk.specs.Logs.{Proves, over, under, residue, cut, settled, branch}
+use Rattle.df_walk.specs.Logs.{Proves, over, under, residue, settled, branch}
 use Rattle.df_walk.proofs.PaddedPaths.{is_over-padded, is_under-padded, is_residue-padded, padded_settled, padded_free, padded_push}
 use Rattle.df_walk.proofs.EntryMeanings.{Says, entry_says, branch_short, residue_passes}
 use Rattle.df_walk.proofs.LogSoundness.{chosen_columns-yes_vector}

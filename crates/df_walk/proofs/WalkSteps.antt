@@ -4,7 +4,7 @@ use Rattle.std.proofs.lemmas.Bool.{cases_lt}
 use Rattle.std.proofs.lemmas.List.{append_assoc, append-nil}
 use Rattle.df_walk.specs.declared.Rules.{Rules}
 use Rattle.df_walk.specs.declared.Entry.{Entry}
-use Rattle.df_walk.specs.declared.Entry.TheVariants.{Branch, Over, Under, Settled, Residue, Cut}
+use Rattle.df_walk.specs.declared.Entry.TheVariants.{Branch, Over, Under, Settled, Residue}
 use Rattle.df_walk.specs.Systems.{System}
 use Rattle.df_walk.specs.Walks.{Step, entry_at, below, walk_from, walk}
 use Rattle.df_walk.specs.Remains.{later_walk, walk_on, behind_first, turned}

@@ -1,5 +1,5 @@
 -- A system of rows over columns: whole numbers for which some columns are to be chosen.
-use Rattle.std.specs.Prelude.{◌≡◌, ℕ, ◌+◌, ◌<◌, if◌then◌else◌, ◌==◌, max, List, [], ◌∷◌, length, map, slice_index, slice_index_or, All}
+use Rattle.std.specs.Prelude.{ℕ, ◌+◌, ◌<◌, if◌then◌else◌, ◌==◌, max, List, [], ◌∷◌, length, map, slice_index, slice_index_or, All}
 use Rattle.std.specs.List.{AllByRecursion, range_with_len}
 use Rattle.std.specs.List.Sorted.{IsStrictlyIncreasing}
 use Rattle.df_walk.specs.declared.Cell.{Cell}

@@ -1,7 +1,5 @@
-use Rattle.std.proofs.Common.{None, length, map}
-use Rattle.std.specs.List.Sorted.{IsPermutation}
+use Rattle.std.proofs.Common.{None, length}
 use Rattle.std.proofs.lemmas.List.{length-replicate}
-use Rattle.df_walk.specs.Solutions.{chosen_columns}
 use Rattle.df_walk.proofs.LogSoundness.{Proves-sound}
 use Rattle.df_walk.proofs.PaddedPaths.{solutions_with-none}
 use Rattle.df_walk.proofs.laws.logs_are_complete.Goals as goal

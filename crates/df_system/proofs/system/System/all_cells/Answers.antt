@@ -1,4 +1,3 @@
-use Rattle.std.proofs.Common.{◌≡◌, ℕ, length, sym, ◌∙◌, arith, ap}
 use Rattle.df_system.proofs.StoredColumns.{all_cells_sum, all_cells_in_range}
 use Rattle.df_system.proofs.system.System.all_cells.Goals as goal
 

@@ -1,5 +1,4 @@
-use Rattle.std.proofs.Common.{◌+◌, ◌<◌, arith, sym, ap, length, ◌∙◌}
-use Rattle.df_walk.specs.Systems.{cells}
+use Rattle.std.proofs.Common.{◌+◌, ◌<◌, arith, sym, ap, length}
 use Rattle.df_walk.proofs.EntryLaws.{column_of}
 use Rattle.df_system.proofs.StoredColumns.{columns_count, column_between}
 use Rattle.df_system.proofs.system.System.column.Goals as goal

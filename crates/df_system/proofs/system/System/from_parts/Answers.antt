@@ -1,4 +1,4 @@
-use Rattle.std.proofs.Common.{◌≡◌, ◌+◌, ◌<◌, length, refl, arith, sym, ap, ◌∙◌}
+use Rattle.std.proofs.Common.{refl, arith}
 use Rattle.df_system.proofs.SystemParts.{system_from, first_empty_is}
 use Rattle.df_system.proofs.system.System.from_parts.Goals as goal
 
