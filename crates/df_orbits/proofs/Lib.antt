@@ -1,0 +1,4 @@
+pub mod FoundClasses
+pub mod MarkLaws
+pub mod PairCounts
+pub mod PlaceTests
