@@ -121,6 +121,7 @@ impl Maps {
     pub fn least_image(&self, block: &Block) -> Block
         requires { IsBlock (point_count self.now) block.now }
         ensures image { result ≡ earliest_image before (image self.now) (full_maps self.now) block.now }
+        ensures maps { AreGroup self.now }
         ensures block { IsBlock (point_count self.now) result }
         ensures size { length result ≡ length block.now }
     {

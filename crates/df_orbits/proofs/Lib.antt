@@ -1,4 +1,6 @@
+pub mod ClassNumbers
 pub mod FoundClasses
 pub mod MarkLaws
+pub mod OrbitLists
 pub mod PairCounts
 pub mod PlaceTests

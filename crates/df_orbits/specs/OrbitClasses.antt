@@ -31,6 +31,13 @@ pair_classes M = classes_of M (subsets (point_count M) 2)
 abbrev pub block_classes : MapGroup → List ℕ → List (List ℕ × ℕ)
 block_classes M sizes = classes_of M (candidates (point_count M) sizes)
 
+-- the earliest members, and the sizes, of listed classes
+abbrev pub first_members : List (List ℕ × ℕ) → List (List ℕ)
+first_members classes = map (λ c. c.0) classes
+
+abbrev pub class_sizes : List (List ℕ × ℕ) → List ℕ
+class_sizes classes = map (λ c. c.1) classes
+
 -- the earliest member of the class of b
 abbrev pub earliest_alike : MapGroup → List ℕ → List ℕ
 earliest_alike M b = earliest_image before (image M) (full_maps M) b

@@ -4,7 +4,7 @@
 mod marks;
 mod orbits;
 
-pub use orbits::{pair_orbits, OrbitError, Orbits};
+pub use orbits::{pair_orbits, subset_orbits, OrbitError, Orbits};
 
 /// Want of memory.
 pub type OutOfMemory = std::alloc::AllocError;

@@ -1,18 +1,19 @@
 // The classes of blocks under a group of maps, by their earliest members.
-ghost use Rattle.std.specs.Prelude.{◌≡◌, ◌==◌, ◌||◌, ◌*◌, ◌<◌, ◌≤◌, ◌∷◌, ◌++◌, [], ℕ, List, length, map, slice_get, slice_index_or, Some, IfOk};
+ghost use Rattle.std.specs.Prelude.{◌≡◌, ◌==◌, ◌||◌, ◌*◌, ◌<◌, ◌≤◌, ◌∷◌, ◌++◌, [], ℕ, List, length, map, slice_get, slice_index_or, Some, Err, IfOk, IfErr};
 ghost use Rattle.df_lists.specs.Membership.{In};
 ghost use Rattle.df_subsets.specs.Blocks.{IsBlock};
 ghost use Rattle.df_subsets.specs.Subsets.{subsets, binomial as binomial_of};
 ghost use Rattle.df_maps.specs.FullMaps.{point_count};
 ghost use Rattle.df_maps.specs.Laws.{AreGroup};
 ghost use Rattle.df_orbits.specs.MarkedPlaces.{is_marked};
-ghost use Rattle.df_orbits.specs.OrbitClasses.{are_alike, class_size, classes_of, pair_classes, block_classes, earliest_alike};
+ghost use Rattle.df_orbits.specs.OrbitClasses.{are_alike, class_size, classes_of, pair_classes, block_classes, first_members, class_sizes, earliest_alike};
+ghost use Rattle.df_orbits.specs.declared.orbits.OrbitError.TheVariants.{TooManySubsets, OutOfMemory as OutOfMemoryError};
 
 use crate::marks::Marks;
 use crate::OutOfMemory;
 use df_maps::Maps;
 use df_subsets::{binomial, rank, unrank, Block};
-use std::alloc::Global;
+use std::alloc::{AllocError, Global};
 use std::marker::Model;
 
 #[derive(Clone, Copy)]
@@ -53,14 +54,81 @@ impl Orbits {
     {
         self.found.len()
     }
+
+    /// The earliest member of class number `i`, from 0 and below the number of classes.
+    pub fn rep(&self, i: usize) -> Block
+        requires { i < length self.now }
+        ensures { slice_get (first_members self.now) i ≡ Some result }
+    {
+        self.found[i].block
+    }
+
+    /// How many blocks class number `i` has, from 0 and below the number of classes.
+    pub fn size(&self, i: usize) -> u32
+        requires { i < length self.now }
+        ensures { slice_get (class_sizes self.now) i ≡ Some result }
+    {
+        self.found[i].size
+    }
+
+    /// The number of the class that a block is in, from 0.
+    /// These are the maps that the classes were made with, and the block has one of the sizes and lies below the number of points.
+    pub fn number_of(&self, maps: &Maps, block: &Block) -> usize
+        requires making { (sizes : List ℕ) × (self.now ≡ block_classes maps.now sizes) × In sizes (length block.now) }
+        requires block { IsBlock (point_count maps.now) block.now }
+        ensures within { result < length self.now }
+        ensures earliest { slice_get (first_members self.now) result ≡ Some (earliest_alike maps.now block.now) }
+        ensures class { (i : ℕ) (b : List ℕ) → slice_get (first_members self.now) i ≡ Some b → are_alike maps.now block.now b ≡ (i == result) }
+    {
+        let least = maps.least_image(block);
+        let mut low = 0;
+        let mut high = self.found.len();
+        while low < high {
+            let middle = low + (high - low) / 2;
+            if self.found[middle].block < least {
+                low = middle + 1;
+            } else {
+                high = middle;
+            }
+        }
+        low
+    }
+}
+
+impl From<AllocError> for OrbitError {
+    ghost from_gives = { λ _ e. e ≡ OutOfMemoryError };
+
+    fn from(_: AllocError) -> Self {
+        OrbitError::OutOfMemory
+    }
 }
 
 /// The classes of pairs of points.
 pub fn pair_orbits(alloc: Global, maps: &Maps) -> Result<Orbits, OutOfMemory>
-    ensures { IfOk result (λ orbits. orbits ≡ pair_classes maps.now) }
+    ensures pairs { IfOk result (λ orbits. orbits ≡ pair_classes maps.now) }
+    ensures sized { IfOk result (λ orbits. orbits ≡ block_classes maps.now (2 ∷ [])) }
 {
     let mut found = Vec::new(alloc);
     find(alloc, maps, maps.points(), 2, &mut found)?;
+    Ok(Orbits { found })
+}
+
+/// The classes of the blocks of `size` points, from 2 to the number of points.
+/// `TooManySubsets` exactly where there are more than 2,000,000 such blocks.
+pub fn subset_orbits(alloc: Global, maps: &Maps, size: u8) -> Result<Orbits, OrbitError>
+    requires some { 2 ≤ size }
+    requires within { size ≤ point_count maps.now }
+    ensures blocks { IfOk result (λ orbits. orbits ≡ classes_of maps.now (subsets (point_count maps.now) size)) }
+    ensures sized { IfOk result (λ orbits. orbits ≡ block_classes maps.now (size ∷ [])) }
+    ensures many { 2000000 < binomial_of (point_count maps.now) size → result ≡ Err (TooManySubsets (point_count maps.now) size) }
+    ensures few { binomial_of (point_count maps.now) size ≤ 2000000 → IfErr result (λ e. e ≡ OutOfMemoryError) }
+{
+    let points = maps.points();
+    if binomial(points, size) > 2_000_000 {
+        return Err(OrbitError::TooManySubsets { points, size });
+    }
+    let mut found = Vec::new(alloc);
+    find(alloc, maps, points, size, &mut found)?;
     Ok(Orbits { found })
 }
 
