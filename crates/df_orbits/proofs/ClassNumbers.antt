@@ -49,7 +49,7 @@ sorted_at earlier (x ∷ xs) i zero d s h k = absurd (omega arith)
 sorted_at earlier (x ∷ xs) zero (suc j) d s h k = s.0 (get_or xs j d) (In-get_or xs j d (omega arith))
 sorted_at earlier (x ∷ xs) (suc i) (suc j) d s h k = sorted_at earlier xs i j d s.1 (omega arith) (omega arith)
 
-In-place : {X : Type 0} (xs : List X) (x d : X) → In xs x → (p : ℕ) × (p < length xs) × (get_or xs p d ≡ x)
+pub In-place : {X : Type 0} (xs : List X) (x d : X) → In xs x → (p : ℕ) × (p < length xs) × (get_or xs p d ≡ x)
 In-place [] x d i = absurd i
 In-place (y ∷ xs) x d (inl e) = (0, omega arith, e)
 In-place (y ∷ xs) x d (inr i) = let r = In-place xs x d i in (suc r.0, omega (arith, r.1), r.2)

@@ -4,3 +4,5 @@ pub mod MarkLaws
 pub mod OrbitLists
 pub mod PairCounts
 pub mod PlaceTests
+pub mod SizeSums
+pub mod SizedClasses

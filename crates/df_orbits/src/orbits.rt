@@ -1,5 +1,6 @@
 // The classes of blocks under a group of maps, by their earliest members.
-ghost use Rattle.std.specs.Prelude.{◌≡◌, ◌==◌, ◌||◌, ◌*◌, ◌<◌, ◌≤◌, ◌∷◌, ◌++◌, [], ℕ, List, length, map, slice_get, slice_index_or, Some, Err, IfOk, IfErr};
+ghost use Rattle.std.specs.Prelude.{◌≡◌, ◌==◌, ◌||◌, ◌*◌, ◌<◌, ◌≤◌, ◌∷◌, ◌++◌, [], ℕ, List, length, map, slice_get, slice_index_or, Some, Err, All, IfOk, IfErr, sum_by};
+ghost use Rattle.std.specs.List.Sorted.{IsStrictlyIncreasing};
 ghost use Rattle.df_lists.specs.Membership.{In};
 ghost use Rattle.df_subsets.specs.Blocks.{IsBlock};
 ghost use Rattle.df_subsets.specs.Subsets.{subsets, binomial as binomial_of};
@@ -7,7 +8,7 @@ ghost use Rattle.df_maps.specs.FullMaps.{point_count};
 ghost use Rattle.df_maps.specs.Laws.{AreGroup};
 ghost use Rattle.df_orbits.specs.MarkedPlaces.{is_marked};
 ghost use Rattle.df_orbits.specs.OrbitClasses.{are_alike, class_size, classes_of, pair_classes, block_classes, first_members, class_sizes, earliest_alike};
-ghost use Rattle.df_orbits.specs.declared.orbits.OrbitError.TheVariants.{TooManySubsets, OutOfMemory as OutOfMemoryError};
+ghost use Rattle.df_orbits.specs.declared.orbits.OrbitError.TheVariants.{TooManySubsets, TooManySummed, OutOfMemory as OutOfMemoryError};
 
 use crate::marks::Marks;
 use crate::OutOfMemory;
@@ -16,7 +17,7 @@ use df_subsets::{binomial, rank, unrank, Block};
 use std::alloc::{AllocError, Global};
 use std::marker::Model;
 
-#[derive(Clone, Copy)]
+#[derive(Clone, Copy, PartialEq, Eq, PartialOrd, Ord)]
 struct Orbit {
     block: Block,
     size: u32,
@@ -130,6 +131,43 @@ pub fn subset_orbits(alloc: Global, maps: &Maps, size: u8) -> Result<Orbits, Orb
     let mut found = Vec::new(alloc);
     find(alloc, maps, points, size, &mut found)?;
     Ok(Orbits { found })
+}
+
+/// The classes of all blocks that have one of the sizes, numbered together. The sizes increase strictly from 2 to the number of points, and there is one.
+/// `TooManySummed` exactly where there are more than 8,000,000 such blocks.
+pub fn sized_orbits(alloc: Global, maps: &Maps, sizes: &[u8]) -> Result<Orbits, OrbitError>
+    requires some { 0 < length sizes.now }
+    requires rising { IsStrictlyIncreasing sizes.now }
+    requires range { All (λ k. (2 ≤ k) × (k ≤ point_count maps.now)) sizes.now }
+    ensures sized { IfOk result (λ orbits. orbits ≡ block_classes maps.now sizes.now) }
+    ensures many { 8000000 < sum_by (binomial_of (point_count maps.now)) sizes.now → result ≡ Err (TooManySummed (point_count maps.now) (sum_by (binomial_of (point_count maps.now)) sizes.now)) }
+    ensures few { sum_by (binomial_of (point_count maps.now)) sizes.now ≤ 8000000 → IfErr result (λ e. e ≡ OutOfMemoryError) }
+{
+    let points = maps.points();
+    let sum = summed(points, sizes);
+    if sum > 8_000_000 {
+        return Err(OrbitError::TooManySummed { points, sum });
+    }
+    let mut found = Vec::new(alloc);
+    for size in sizes {
+        find(alloc, maps, points, *size, &mut found)?;
+    }
+    found.sort()?;
+    Ok(Orbits { found })
+}
+
+// How many blocks have one of the sizes.
+fn summed(points: u8, sizes: &[u8]) -> u128
+    requires small { points ≤ 128 }
+    requires rising { IsStrictlyIncreasing sizes.now }
+    requires range { All (λ k. (2 ≤ k) × (k ≤ points)) sizes.now }
+    ensures { result ≡ sum_by (binomial_of points) sizes.now }
+{
+    let mut sum = 0;
+    for size in sizes {
+        sum += binomial(points, *size);
+    }
+    sum
 }
 
 // Appends the classes of the blocks of one size, of points below `points`.
