@@ -7,12 +7,21 @@ use df_group::{Elem, Shape, Subgroup};
 use df_subsets::{binomial, unrank, Block, Point};
 use std::process::Abort;
 
+// All the maps with one multiplier, if it is one and there aren't too many points.
+fn made(shape: &Shape, fixed: u8, mult: u16) -> Option<Maps> {
+    if !shape.is_unit(u32::from(mult)) {
+        return None;
+    }
+    if u32::from(shape.order()) + u32::from(fixed) > 128 {
+        return None;
+    }
+    let whole = Subgroup::generate(shape, &[Elem(1)]);
+    Some(Maps::new(shape, fixed, &whole, &[mult]))
+}
+
 fn cyclic(rt: &impl Abort, order: u16, mult: u16, fixed: u8) -> Maps {
     let shape = Shape::new(&[order]).expect(rt, "a cyclic group");
-    let whole = Subgroup::generate(&shape, &[Elem(1)]);
-    assert!(rt; shape.is_unit(u32::from(mult)));
-    assert!(rt; u32::from(shape.order()) + u32::from(fixed) <= 128);
-    Maps::new(&shape, fixed, &whole, &[mult])
+    made(&shape, fixed, mult).expect(rt, "a unit and few points")
 }
 
 // The block that stands at a place among those of its size.
