@@ -5,7 +5,7 @@ use Rattle.df_lists.specs.NumberSets.{has_member, IsSet}
 use Rattle.df_lists.proofs.TestLaws.{filter_agree}
 use Rattle.df_acting.proofs.ImageLaws.{image_by}
 
-any_map : {X Y : Type 0} (t : Y → Bool) (f : X → Y) (xs : List X) → list_any t (map f xs) ≡ list_any (λ x. t (f x)) xs
+pub any_map : {X Y : Type 0} (t : Y → Bool) (f : X → Y) (xs : List X) → list_any t (map f xs) ≡ list_any (λ x. t (f x)) xs
 any_map t f [] = refl
 any_map t f (x ∷ xs) = ap (λ b. t (f x) || b) (any_map t f xs)
 

@@ -10,7 +10,7 @@ use Rattle.df_lists.specs.Orders.{IsSorted}
 use Rattle.df_lists.proofs.TestLaws.{same_tests, filter_agree, has_from}
 use Rattle.df_acting.proofs.ImageLaws.{range_once, In-set}
 
-filter-filter : {X : Type 0} (q p : X → Bool) (xs : List X) → filter q (filter p xs) ≡ filter (λ x. p x && q x) xs
+pub filter-filter : {X : Type 0} (q p : X → Bool) (xs : List X) → filter q (filter p xs) ≡ filter (λ x. p x && q x) xs
 filter-filter q p [] = refl
 filter-filter {X = X} q p (x ∷ xs) = go (p x) (filter-filter q p xs)
   where

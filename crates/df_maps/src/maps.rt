@@ -55,9 +55,10 @@ impl Maps {
         }
     }
 
-    /// The number of points, at most 128: the elements and the fixed points.
+    /// The number of points, from 2 to 128: the elements and the fixed points.
     pub fn points(&self) -> u8
         ensures points { result ≡ point_count self.now }
+        ensures some { 2 ≤ result }
         ensures small { result ≤ 128 }
         ensures maps { AreGroup self.now }
     {
@@ -120,6 +121,7 @@ impl Maps {
     pub fn least_image(&self, block: &Block) -> Block
         requires { IsBlock (point_count self.now) block.now }
         ensures image { result ≡ earliest_image before (image self.now) (full_maps self.now) block.now }
+        ensures maps { AreGroup self.now }
         ensures block { IsBlock (point_count self.now) result }
         ensures size { length result ≡ length block.now }
     {

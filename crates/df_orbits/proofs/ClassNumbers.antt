@@ -1,0 +1,159 @@
+-- Where the earliest member of a block's class stands among all earliest members.
+use Rattle.std.proofs.Common.{◌≡◌, ℕ, suc, zero, ◌+◌, ◌<◌, ◌≤◌, Bool, true, false, ◌||◌, cond, map, filter, List, [], ◌∷◌, length, get_or, refl, sym, ap, ap₂, ◌∙◌, subst, inl, inr, ◌⊎◌, arith, eqb, eq-eqb, eqb-true, ⊎_elim, slice_get, Some}
+use Rattle.std.proofs.lemmas.Option.{slice_get-get_or, get_or_from_slice_get, slice_get_within}
+use Rattle.std.proofs.lemmas.Bool.{both_ways, cases_order, cases_lt, false_from_ne_true}
+use Rattle.std.proofs.lemmas.List.{length-map}
+use Rattle.std.specs.List.{range_with_len, list_any}
+use Rattle.df_lists.specs.Membership.{In}
+use Rattle.df_lists.specs.NumberSets.{IsSet}
+use Rattle.df_lists.proofs.MemberLaws.{In-filter, In-filter_gives}
+use Rattle.df_subsets.specs.Blocks.{before}
+use Rattle.df_subsets.specs.Orders.{IsSorted}
+use Rattle.df_subsets.specs.Subsets.{points, choose, subsets, candidates, nonempty, same_list}
+use Rattle.df_subsets.proofs.BlockLaws.{set_is_block}
+use Rattle.df_subsets.proofs.BlockOrders.{lists_ordered}
+use Rattle.df_subsets.proofs.SubsetLists.{same_list-gives, same_list-self}
+use Rattle.df_subsets.proofs.SizedLists.{choose_is, candidates_sorted, candidates_have}
+use Rattle.df_acting.specs.Classes.{IsSpread}
+use Rattle.df_acting.specs.Earliest.{is_earliest}
+use Rattle.df_acting.proofs.TestLaws.{same_tests, any_from, filter_agree, map_fixed}
+use Rattle.df_acting.proofs.EarliestLaws.{least_gives, least_same, least_least, least_once, least_class}
+use Rattle.df_acting.proofs.SpreadLaws.{lists_equal, candidates_spread}
+use Rattle.df_maps.specs.FullMaps.{MapGroup, full_maps, image, point_count, carried}
+use Rattle.df_maps.specs.Laws.{AreGroup}
+use Rattle.df_maps.proofs.LoopSteps.{map-map}
+use Rattle.df_maps.proofs.SetLists.{In-get_or}
+use Rattle.df_orbits.specs.OrbitClasses.{are_alike, class_size, classes_of, earliest_of, block_classes, first_members, earliest_alike}
+use Rattle.df_orbits.proofs.FoundClasses.{blocks_group, alike_comm}
+
+-- the blocks of one size
+pub one_size : (v k : ℕ) → subsets v k ≡ candidates v (k ∷ [])
+one_size v k = choose_is (points v) k ∙ filter_agree (λ b. eqb k (length b)) (λ b. eqb k (length b) || false) ([] ∷ nonempty (points v)) (λ b i. or_none (eqb k (length b)))
+  where
+    or_none : (b : Bool) → b ≡ (b || false)
+    or_none true = refl
+    or_none false = refl
+
+sorted-filter : {X : Type 0} (earlier : X → X → Bool) (t : X → Bool) (xs : List X) → IsSorted earlier xs → IsSorted earlier (filter t xs)
+sorted-filter earlier t [] s = tt
+sorted-filter earlier t (x ∷ xs) s =
+    let more = sorted-filter earlier t xs s.1 in
+    elim (t x) as (λ b. IsSorted earlier (cond b (x ∷ filter t xs) (filter t xs))) [
+      | true ↦ (λ y i. s.0 y (In-filter_gives t xs y i).0, more)
+      | false ↦ more
+    ]
+
+pub sorted_at : {X : Type 0} (earlier : X → X → Bool) (xs : List X) (i j : ℕ) (d : X) → IsSorted earlier xs → i < j → j < length xs → earlier (get_or xs i d) (get_or xs j d) ≡ true
+sorted_at earlier [] i j d s h k = absurd (omega arith)
+sorted_at earlier (x ∷ xs) i zero d s h k = absurd (omega arith)
+sorted_at earlier (x ∷ xs) zero (suc j) d s h k = s.0 (get_or xs j d) (In-get_or xs j d (omega arith))
+sorted_at earlier (x ∷ xs) (suc i) (suc j) d s h k = sorted_at earlier xs i j d s.1 (omega arith) (omega arith)
+
+pub In-place : {X : Type 0} (xs : List X) (x d : X) → In xs x → (p : ℕ) × (p < length xs) × (get_or xs p d ≡ x)
+In-place [] x d i = absurd i
+In-place (y ∷ xs) x d (inl e) = (0, omega arith, e)
+In-place (y ∷ xs) x d (inr i) = let r = In-place xs x d i in (suc r.0, omega (arith, r.1), r.2)
+
+-- the earliest members of the listed classes
+pub members_are : (M : MapGroup) (blocks : List (List ℕ)) → first_members (classes_of M blocks) ≡ earliest_of M blocks
+members_are M blocks =
+    map-map (λ (c : List ℕ × ℕ). c.0) (λ b. (b, class_size M blocks b)) (earliest_of M blocks) ∙ map_fixed (λ b. b) (earliest_of M blocks) (λ b i. refl)
+
+module _ (M : MapGroup) (A : AreGroup M) (sizes : List ℕ) where
+  abbrev pub E : List (List ℕ)
+  E = earliest_of M (candidates (point_count M) sizes)
+
+  pub members_sorted : IsSorted before E
+  members_sorted = sorted-filter before (is_earliest before (image M) (full_maps M)) (candidates (point_count M) sizes) (candidates_sorted (point_count M) sizes)
+
+  spread : IsSpread same_list (image M) (IsSet (point_count M)) (full_maps M) (candidates (point_count M) sizes)
+  spread = candidates_spread (carried M) (point_count M) (full_maps M) A.group sizes
+
+  module _ (b : List ℕ) (set : IsSet (point_count M) b) (sized : In sizes (length b)) where
+    candidate : In (candidates (point_count M) sizes) b
+    candidate = candidates_have (point_count M) sizes b (set_is_block (point_count M) b set) (any_from (λ k. eqb k (length b)) sizes (length b) sized (eq-eqb (length b) (length b) refl))
+
+    least_in : In E (earliest_alike M b)
+    least_in =
+        let g = least_gives same_list (image M) (IsSet (point_count M)) (full_maps M) lists_equal (blocks_group M A) before lists_ordered b set in
+        In-filter (is_earliest before (image M) (full_maps M)) (candidates (point_count M) sizes) (earliest_alike M b) (subst (In (candidates (point_count M) sizes)) g.2 (spread.moves g.0 g.1 b candidate))
+        (least_least same_list (image M) (IsSet (point_count M)) (full_maps M) lists_equal (blocks_group M A) before lists_ordered b set)
+
+    -- the place before which all are earlier, and from which on none is
+    pub number_found : (r : ℕ) → r ≤ length E → ((i : ℕ) → i < r → before (get_or E i []) (earliest_alike M b) ≡ true) → ((i : ℕ) → r ≤ i → i < length E → before (get_or E i []) (earliest_alike M b) ≡ false) → (r < length E) × (get_or E r [] ≡ earliest_alike M b)
+    number_found r within below above =
+        let p = In-place E (earliest_alike M b) [] least_in in
+        go p.0 p.1 p.2 (cases_order r p.0)
+      where
+        go : (p : ℕ) → p < length E → get_or E p [] ≡ earliest_alike M b → (r ≡ p) ⊎ ((r < p) ⊎ (p < r)) → (r < length E) × (get_or E r [] ≡ earliest_alike M b)
+        go p h e (inl same) = (omega (arith, h, same), ap (λ i. get_or E i []) same ∙ e)
+        go p h e (inr (inl l)) = absurd (both_ways (before (get_or E r []) (earliest_alike M b)) (above r (omega arith) (omega (arith, h, l))) (subst (λ c. before (get_or E r []) c ≡ true) e (sorted_at before E r p [] members_sorted l h)))
+        go p h e (inr (inr l)) = absurd (both_ways (before (earliest_alike M b) (earliest_alike M b)) (lists_ordered.unlike (earliest_alike M b)) (subst (λ c. before c (earliest_alike M b) ≡ true) e (below p l)))
+
+    -- the block is in the class of that number and of no other
+    pub number_alone : (r i : ℕ) → r < length E → get_or E r [] ≡ earliest_alike M b → i < length E → are_alike M b (get_or E i []) ≡ eqb i r
+    number_alone r i within at h =
+        least_class same_list (image M) (IsSet (point_count M)) (full_maps M) lists_equal (blocks_group M A) before lists_ordered b x set x_set
+        ∙ ap (same_list (earliest_alike M b)) own
+        ∙ same_tests (same_list (earliest_alike M b) x) (eqb i r)
+        (λ s. eq-eqb i r (apart (at ∙ same_list-gives (earliest_alike M b) x s)))
+        (λ s. subst (λ c. same_list (earliest_alike M b) c ≡ true) (sym at ∙ ap (λ j. get_or E j []) (sym (eqb-true i r s))) (same_list-self (earliest_alike M b)))
+      where
+        x : List ℕ
+        x = get_or E i []
+
+        x_in : In (candidates (point_count M) sizes) (get_or E i []) × (is_earliest before (image M) (full_maps M) (get_or E i []) ≡ true)
+        x_in = In-filter_gives (is_earliest before (image M) (full_maps M)) (candidates (point_count M) sizes) (get_or E i []) (In-get_or E i [] h)
+
+        x_set : IsSet (point_count M) (get_or E i [])
+        x_set = spread.inside (get_or E i []) x_in.0
+
+        own : earliest_alike M (get_or E i []) ≡ get_or E i []
+        own =
+            let y = get_or E i [] in
+            let g = least_gives same_list (image M) (IsSet (point_count M)) (full_maps M) lists_equal (blocks_group M A) before lists_ordered y x_set in
+            let set = subst (IsSet (point_count M)) g.2 ((blocks_group M A).stays g.0 g.1 y x_set) in
+            sym (least_once same_list (image M) (IsSet (point_count M)) (full_maps M) lists_equal (blocks_group M A) before lists_ordered y (earliest_alike M y) x_set set
+            (least_same same_list (image M) (IsSet (point_count M)) (full_maps M) lists_equal (blocks_group M A) before lists_ordered y x_set) x_in.1
+            (least_least same_list (image M) (IsSet (point_count M)) (full_maps M) lists_equal (blocks_group M A) before lists_ordered y x_set))
+
+        apart : get_or E r [] ≡ get_or E i [] → i ≡ r
+        apart e = go (cases_order i r)
+          where
+            go : (i ≡ r) ⊎ ((i < r) ⊎ (r < i)) → i ≡ r
+            go (inl s) = s
+            go (inr (inl l)) = absurd (both_ways (before (get_or E i []) (get_or E i [])) (lists_ordered.unlike (get_or E i [])) (subst (λ c. before (get_or E i []) c ≡ true) e (sorted_at before E i r [] members_sorted l within)))
+            go (inr (inr l)) = absurd (both_ways (before (get_or E i []) (get_or E i [])) (lists_ordered.unlike (get_or E i [])) (subst (λ c. before c (get_or E i []) ≡ true) e (sorted_at before E r i [] members_sorted l h)))
+
+-- where a search ends: the number, its earliest member, and the class alone
+abbrev pub Ends : MapGroup → List ℕ → List (List ℕ) → ℕ → Type 0
+Ends M b F r =
+    r ≤ length F → ((i : ℕ) → i < r → before (get_or F i []) (earliest_alike M b) ≡ true) → ((i : ℕ) → r ≤ i → i < length F → before (get_or F i []) (earliest_alike M b) ≡ false)
+    → (r < length F) × (slice_get F r ≡ Some (earliest_alike M b)) × ((i : ℕ) (x : List ℕ) → slice_get F i ≡ Some x → are_alike M b x ≡ eqb i r)
+
+pub search_ends : (M : MapGroup) → AreGroup M → (sizes : List ℕ) (b : List ℕ) → IsSet (point_count M) b → In sizes (length b) → (now : List (List ℕ × ℕ)) → now ≡ block_classes M sizes → (r : ℕ) → Ends M b (first_members now) r
+search_ends M A sizes b set sized now is r = subst (λ F. Ends M b F r) (sym (ap first_members is ∙ members_are M (candidates (point_count M) sizes))) ends
+  where
+    ends : Ends M b (earliest_of M (candidates (point_count M) sizes)) r
+    ends within below above =
+        let found = number_found M A sizes b set sized r within below above in
+        let F = earliest_of M (candidates (point_count M) sizes) in (
+          found.0,
+          slice_get-get_or F r [] found.0 ∙ ap Some found.1,
+          λ i x h. subst (λ y. are_alike M b y ≡ eqb i r) (get_or_from_slice_get F i x [] h) (number_alone M A sizes b set sized r i found.0 found.1 (slice_get_within F i x h)),
+        )
+
+pub listed_sorted : (M : MapGroup) → AreGroup M → (sizes : List ℕ) (now : List (List ℕ × ℕ)) → now ≡ block_classes M sizes → IsSorted before (first_members now)
+listed_sorted M A sizes now is = subst (IsSorted before) (sym (ap first_members is ∙ members_are M (candidates (point_count M) sizes))) (members_sorted M A sizes)
+
+-- the halves of a search
+pub half_below : (E : List (List ℕ)) (x : List ℕ) (middle : ℕ) → IsSorted before E → middle < length E → before (get_or E middle []) x ≡ true → (i : ℕ) → i < middle + 1 → before (get_or E i []) x ≡ true
+half_below E x middle s h less i l =
+    ⊎_elim (λ k. lists_ordered.onward (get_or E i []) (get_or E middle []) x (sorted_at before E i middle [] s k h) less) (λ k. let e : middle ≡ i = omega (arith, k, l) in subst (λ j. before (get_or E j []) x ≡ true) e less) (cases_lt i middle)
+
+pub half_above : (E : List (List ℕ)) (x : List ℕ) (middle : ℕ) → IsSorted before E → before (get_or E middle []) x ≡ false → (i : ℕ) → middle ≤ i → i < length E → before (get_or E i []) x ≡ false
+half_above E x middle s more i l h =
+    false_from_ne_true (before (get_or E i []) x) (λ k. ⊎_elim
+        (λ m. both_ways (before (get_or E middle []) x) more (lists_ordered.onward (get_or E middle []) (get_or E i []) x (sorted_at before E middle i [] s m h) k))
+        (λ m. let e : i ≡ middle = omega (arith, m, l) in both_ways (before (get_or E middle []) x) more (subst (λ j. before (get_or E j []) x ≡ true) e k))
+        (cases_lt middle i))

@@ -1,0 +1,2 @@
+pub mod OrbitClasses
+pub mod MarkedPlaces

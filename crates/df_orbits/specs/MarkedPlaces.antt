@@ -1,0 +1,7 @@
+-- Marks at places, 64 to a word.
+use Rattle.std.specs.Prelude.{ℕ, ◌/◌, ◌%◌, ◌==◌, Bool, List, slice_index}
+use Rattle.std.specs.Int.{bit_at}
+
+-- whether the place has a mark
+abbrev pub is_marked : List ℕ → ℕ → Bool
+is_marked words place = bit_at (slice_index words (place / 64)) (place % 64) == 1

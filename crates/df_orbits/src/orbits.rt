@@ -1,0 +1,213 @@
+// The classes of blocks under a group of maps, by their earliest members.
+ghost use Rattle.std.specs.Prelude.{◌≡◌, ◌==◌, ◌||◌, ◌*◌, ◌<◌, ◌≤◌, ◌∷◌, ◌++◌, [], ℕ, List, length, map, slice_get, slice_index_or, Some, Err, All, IfOk, IfErr, sum_by};
+ghost use Rattle.std.specs.List.Sorted.{IsStrictlyIncreasing};
+ghost use Rattle.df_lists.specs.Membership.{In};
+ghost use Rattle.df_subsets.specs.Blocks.{IsBlock};
+ghost use Rattle.df_subsets.specs.Subsets.{subsets, binomial as binomial_of};
+ghost use Rattle.df_maps.specs.FullMaps.{point_count};
+ghost use Rattle.df_maps.specs.Laws.{AreGroup};
+ghost use Rattle.df_orbits.specs.MarkedPlaces.{is_marked};
+ghost use Rattle.df_orbits.specs.OrbitClasses.{are_alike, class_size, classes_of, pair_classes, block_classes, first_members, class_sizes, earliest_alike};
+ghost use Rattle.df_orbits.specs.declared.orbits.OrbitError.TheVariants.{TooManySubsets, TooManySummed, OutOfMemory as OutOfMemoryError};
+
+use crate::marks::Marks;
+use crate::OutOfMemory;
+use df_maps::Maps;
+use df_subsets::{binomial, rank, unrank, Block};
+use std::alloc::{AllocError, Global};
+use std::marker::Model;
+
+#[derive(Clone, Copy, PartialEq, Eq, PartialOrd, Ord)]
+struct Orbit {
+    block: Block,
+    size: u32,
+}
+
+/// The classes of blocks under a group of maps, in the order of their earliest members.
+#[derive(Drop)]
+pub struct Orbits {
+    found: Vec<Orbit>,
+}
+
+/// Why the classes of blocks weren't listed.
+#[derive(Clone, Copy, Debug, PartialEq, Eq)]
+pub enum OrbitError {
+    /// There are more than 2,000,000 blocks of one size.
+    TooManySubsets { points: u8, size: u8 },
+    /// Memory was wanting.
+    OutOfMemory,
+    /// There are more than 8,000,000 blocks of the sizes together.
+    TooManySummed { points: u8, sum: u128 },
+}
+
+impl Model for Orbits {
+    ghost use Rattle.std.specs.Prelude.{List, ℕ, map};
+
+    ghost Value = { List (List ℕ × ℕ) };
+
+    ghost view = { λ o. map (λ f. (f.block, f.size)) o.found.items };
+}
+
+impl Orbits {
+    /// How many classes there are.
+    pub fn len(&self) -> usize
+        ensures { result ≡ length self.now }
+    {
+        self.found.len()
+    }
+
+    /// The earliest member of class number `i`, from 0 and below the number of classes.
+    pub fn rep(&self, i: usize) -> Block
+        requires { i < length self.now }
+        ensures { slice_get (first_members self.now) i ≡ Some result }
+    {
+        self.found[i].block
+    }
+
+    /// How many blocks class number `i` has, from 0 and below the number of classes.
+    pub fn size(&self, i: usize) -> u32
+        requires { i < length self.now }
+        ensures { slice_get (class_sizes self.now) i ≡ Some result }
+    {
+        self.found[i].size
+    }
+
+    /// The number of the class that a block is in, from 0.
+    /// These are the maps that the classes were made with, and the block has one of the sizes and lies below the number of points.
+    pub fn number_of(&self, maps: &Maps, block: &Block) -> usize
+        requires making { (sizes : List ℕ) × (self.now ≡ block_classes maps.now sizes) × In sizes (length block.now) }
+        requires block { IsBlock (point_count maps.now) block.now }
+        ensures within { result < length self.now }
+        ensures earliest { slice_get (first_members self.now) result ≡ Some (earliest_alike maps.now block.now) }
+        ensures class { (i : ℕ) (b : List ℕ) → slice_get (first_members self.now) i ≡ Some b → are_alike maps.now block.now b ≡ (i == result) }
+    {
+        let least = maps.least_image(block);
+        let mut low = 0;
+        let mut high = self.found.len();
+        while low < high {
+            let middle = low + (high - low) / 2;
+            if self.found[middle].block < least {
+                low = middle + 1;
+            } else {
+                high = middle;
+            }
+        }
+        low
+    }
+}
+
+impl From<AllocError> for OrbitError {
+    ghost from_gives = { λ _ e. e ≡ OutOfMemoryError };
+
+    fn from(_: AllocError) -> Self {
+        OrbitError::OutOfMemory
+    }
+}
+
+/// The classes of pairs of points.
+pub fn pair_orbits(alloc: Global, maps: &Maps) -> Result<Orbits, OutOfMemory>
+    ensures pairs { IfOk result (λ orbits. orbits ≡ pair_classes maps.now) }
+    ensures sized { IfOk result (λ orbits. orbits ≡ block_classes maps.now (2 ∷ [])) }
+{
+    let mut found = Vec::new(alloc);
+    find(alloc, maps, maps.points(), 2, &mut found)?;
+    Ok(Orbits { found })
+}
+
+/// The classes of the blocks of `size` points, from 2 to the number of points.
+/// `TooManySubsets` exactly where there are more than 2,000,000 such blocks.
+pub fn subset_orbits(alloc: Global, maps: &Maps, size: u8) -> Result<Orbits, OrbitError>
+    requires some { 2 ≤ size }
+    requires within { size ≤ point_count maps.now }
+    ensures blocks { IfOk result (λ orbits. orbits ≡ classes_of maps.now (subsets (point_count maps.now) size)) }
+    ensures sized { IfOk result (λ orbits. orbits ≡ block_classes maps.now (size ∷ [])) }
+    ensures many { 2000000 < binomial_of (point_count maps.now) size → result ≡ Err (TooManySubsets (point_count maps.now) size) }
+    ensures few { binomial_of (point_count maps.now) size ≤ 2000000 → IfErr result (λ e. e ≡ OutOfMemoryError) }
+{
+    let points = maps.points();
+    if binomial(points, size) > 2_000_000 {
+        return Err(OrbitError::TooManySubsets { points, size });
+    }
+    let mut found = Vec::new(alloc);
+    find(alloc, maps, points, size, &mut found)?;
+    Ok(Orbits { found })
+}
+
+/// The classes of all blocks that have one of the sizes, numbered together. The sizes increase strictly from 2 to the number of points, and there is one.
+/// `TooManySummed` exactly where there are more than 8,000,000 such blocks.
+pub fn sized_orbits(alloc: Global, maps: &Maps, sizes: &[u8]) -> Result<Orbits, OrbitError>
+    requires some { 0 < length sizes.now }
+    requires rising { IsStrictlyIncreasing sizes.now }
+    requires range { All (λ k. (2 ≤ k) × (k ≤ point_count maps.now)) sizes.now }
+    ensures sized { IfOk result (λ orbits. orbits ≡ block_classes maps.now sizes.now) }
+    ensures many { 8000000 < sum_by (binomial_of (point_count maps.now)) sizes.now → result ≡ Err (TooManySummed (point_count maps.now) (sum_by (binomial_of (point_count maps.now)) sizes.now)) }
+    ensures few { sum_by (binomial_of (point_count maps.now)) sizes.now ≤ 8000000 → IfErr result (λ e. e ≡ OutOfMemoryError) }
+{
+    let points = maps.points();
+    let sum = summed(points, sizes);
+    if sum > 8_000_000 {
+        return Err(OrbitError::TooManySummed { points, sum });
+    }
+    let mut found = Vec::new(alloc);
+    for size in sizes {
+        find(alloc, maps, points, *size, &mut found)?;
+    }
+    found.sort()?;
+    Ok(Orbits { found })
+}
+
+// How many blocks have one of the sizes.
+fn summed(points: u8, sizes: &[u8]) -> u128
+    requires small { points ≤ 128 }
+    requires rising { IsStrictlyIncreasing sizes.now }
+    requires range { All (λ k. (2 ≤ k) × (k ≤ points)) sizes.now }
+    ensures { result ≡ sum_by (binomial_of points) sizes.now }
+{
+    let mut sum = 0;
+    for size in sizes {
+        sum += binomial(points, *size);
+    }
+    sum
+}
+
+// Appends the classes of the blocks of one size, of points below `points`.
+fn find(alloc: Global, maps: &Maps, points: u8, size: u8, found: &mut Vec<Orbit>) -> Result<(), OutOfMemory>
+    requires maps { AreGroup maps.now }
+    requires points { points ≡ point_count maps.now }
+    requires small { points ≤ 128 }
+    requires some { 1 ≤ size }
+    requires within { size ≤ point_count maps.now }
+    requires few { binomial_of (point_count maps.now) size ≤ 8000000 }
+    ensures { IfOk result (λ _. map (λ f. (f.block, f.size)) found.new.items ≡ map (λ f. (f.block, f.size)) found.old.items ++ classes_of maps.now (subsets (point_count maps.now) size)) }
+{
+    let count = binomial(points, size) as usize;
+    let mut marks = Marks::none(alloc, count)?;
+    for place in 0..count {
+        if marks.has(place) {
+            continue;
+        }
+        let block = unrank(points, size, place as u128);
+        mark(&mut marks, maps, &block);
+        found.push(Orbit {
+            block,
+            size: maps.orbit_size(&block),
+        })?;
+    }
+    Ok(())
+}
+
+// Marks the places of a block's images.
+fn mark(marks: &mut Marks, maps: &Maps, block: &Block)
+    requires block { IsBlock (point_count maps.now) block.now }
+    requires some { 1 ≤ length block.now }
+    requires few { binomial_of (point_count maps.now) (length block.now) ≤ 8000000 }
+    requires room { binomial_of (point_count maps.now) (length block.now) ≤ 64 * length marks.old }
+    ensures room { length marks.new ≡ length marks.old }
+    ensures marks { (place : ℕ) → place < binomial_of (point_count maps.now) (length block.now) → is_marked marks.new place
+        ≡ (is_marked marks.old place || are_alike maps.now block.now (slice_index_or (subsets (point_count maps.now) (length block.now)) place [])) }
+{
+    let points = maps.points();
+    for i in 0..maps.count() {
+        marks.put(rank(points, &maps.image_block(i, block)) as usize);
+    }
+}
