@@ -8,7 +8,7 @@ use Rattle.df_lists.specs.Membership.{In}
 use Rattle.df_lists.specs.NumberSets.{IsSet}
 use Rattle.df_lists.proofs.MemberLaws.{In-filter, In-filter_gives}
 use Rattle.df_subsets.specs.Blocks.{before}
-use Rattle.df_subsets.specs.Orders.{IsSorted}
+use Rattle.df_lists.specs.Orders.{IsSorted}
 use Rattle.df_subsets.specs.Subsets.{points, choose, subsets, candidates, nonempty, same_list}
 use Rattle.df_subsets.proofs.BlockLaws.{set_is_block}
 use Rattle.df_subsets.proofs.BlockOrders.{lists_ordered}
@@ -16,7 +16,7 @@ use Rattle.df_subsets.proofs.SubsetLists.{same_list-gives, same_list-self}
 use Rattle.df_subsets.proofs.SizedLists.{choose_is, candidates_sorted, candidates_have}
 use Rattle.df_acting.specs.Classes.{IsSpread}
 use Rattle.df_acting.specs.Earliest.{is_earliest}
-use Rattle.df_acting.proofs.TestLaws.{same_tests, any_from, filter_agree, map_fixed}
+use Rattle.df_lists.proofs.TestLaws.{same_tests, any_from, filter_agree, map_fixed}
 use Rattle.df_acting.proofs.EarliestLaws.{least_gives, least_same, least_least, least_once, least_class}
 use Rattle.df_acting.proofs.SpreadLaws.{lists_equal, candidates_spread}
 use Rattle.df_maps.specs.FullMaps.{MapGroup, full_maps, image, point_count, carried}

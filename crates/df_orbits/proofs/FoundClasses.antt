@@ -9,12 +9,12 @@ use Rattle.df_lists.specs.NumberSets.{IsSet}
 use Rattle.df_lists.proofs.MemberLaws.{In-append_left}
 use Rattle.df_lists.proofs.ListTotals.{count_agree}
 use Rattle.df_subsets.specs.Blocks.{before}
-use Rattle.df_subsets.specs.Orders.{IsSorted}
+use Rattle.df_lists.specs.Orders.{IsSorted}
 use Rattle.df_subsets.specs.Subsets.{subsets, same_list}
 use Rattle.df_subsets.proofs.BlockOrders.{lists_ordered, subsets_sorted}
 use Rattle.df_acting.specs.Classes.{IsMapGroup, IsSpread}
 use Rattle.df_acting.specs.Earliest.{is_earliest}
-use Rattle.df_acting.proofs.TestLaws.{same_tests, any_from, any_gives}
+use Rattle.df_lists.proofs.TestLaws.{same_tests, any_from, any_gives}
 use Rattle.df_acting.proofs.ClassLaws.{class_same, class_comm}
 use Rattle.df_acting.proofs.EarliestLaws.{least_unmarked}
 use Rattle.df_acting.proofs.ImageLaws.{image_group}

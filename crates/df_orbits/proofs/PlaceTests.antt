@@ -5,7 +5,7 @@ use Rattle.df_subsets.specs.Blocks.{IsBlock}
 use Rattle.df_subsets.specs.Subsets.{subsets, binomial, same_list, rank}
 use Rattle.df_subsets.proofs.SubsetLists.{subsets_long, same_list-gives, same_list-self}
 use Rattle.df_subsets.proofs.Places.{rank_of}
-use Rattle.df_acting.proofs.TestLaws.{same_tests}
+use Rattle.df_lists.proofs.TestLaws.{same_tests}
 
 -- a block stands at its rank alone
 pub rank_test : (v k : ℕ) (b : List ℕ) (r place : ℕ) → slice_get (subsets v k) r ≡ Some b → r ≡ rank v b → place < binomial v k → eqb r place ≡ same_list b (get_or (subsets v k) place [])

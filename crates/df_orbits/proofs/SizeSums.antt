@@ -14,7 +14,7 @@ use Rattle.df_lists.proofs.ListTotals.{list_total, list_total_agree, list_total_
 use Rattle.df_subsets.specs.Subsets.{points, choose, nonempty, binomial}
 use Rattle.df_subsets.proofs.SubsetLists.{subsets_long}
 use Rattle.df_subsets.proofs.SizedLists.{choose_is}
-use Rattle.df_acting.proofs.TestLaws.{any_gives}
+use Rattle.df_lists.proofs.TestLaws.{any_gives}
 use Rattle.df_maps.proofs.ProductLaws.{count_most}
 use Rattle.df_orbits.proofs.SizedClasses.{AreDistinct}
 

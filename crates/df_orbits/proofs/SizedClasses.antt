@@ -13,14 +13,14 @@ use Rattle.df_lists.specs.Totals.{one}
 use Rattle.df_lists.proofs.MemberLaws.{In-filter, In-filter_gives, In-map, In-map_gives, count-append, count-map, count_none, count_some, count_gives}
 use Rattle.df_lists.proofs.ListTotals.{list_total, count_total, count_agree}
 use Rattle.df_subsets.specs.Blocks.{IsBlock, before}
-use Rattle.df_subsets.specs.Orders.{IsSorted}
+use Rattle.df_lists.specs.Orders.{IsSorted}
 use Rattle.df_subsets.specs.Subsets.{points, subsets, candidates, nonempty, same_list, binomial}
 use Rattle.df_subsets.proofs.BlockLaws.{block_is_set}
 use Rattle.df_subsets.proofs.BlockOrders.{lists_ordered, sorted_same}
 use Rattle.df_subsets.proofs.SubsetLists.{same_list-gives, same_list-self, subsets_inside, subsets_once, subsets_have, subsets_long}
 use Rattle.df_subsets.proofs.SizedLists.{candidates_inside, candidates_have}
 use Rattle.df_acting.specs.Earliest.{is_earliest}
-use Rattle.df_acting.proofs.TestLaws.{same_tests, any_from, any_gives, filter_agree, map_agree}
+use Rattle.df_lists.proofs.TestLaws.{same_tests, any_from, any_gives, filter_agree, map_agree}
 use Rattle.df_acting.proofs.ClassLaws.{class_gives}
 use Rattle.df_acting.proofs.ImageLaws.{length-image}
 use Rattle.df_acting.proofs.SpreadLaws.{lists_equal}
