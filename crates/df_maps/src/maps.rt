@@ -175,7 +175,11 @@ impl Maps {
         if p.0 >= self.shape.order() {
             return p;
         }
-        Point(self.shape.add(self.shape.times(u32::from(m), Elem(p.0)), h).0)
+        Point(
+            self.shape
+                .add(self.shape.times(u32::from(m), Elem(p.0)), h)
+                .0,
+        )
     }
 }
 
