@@ -10,7 +10,7 @@ use std::alloc::{AllocError, Global};
 use std::marker::Model;
 use std::sync::ledger::Ledger;
 
-/// A target for each row and the positive entries of each column, at least one in each.
+/// A target for each row and the positive entries of each column, at least one in each: the form of an orbit matrix (Kramer and Mesner 1976).
 /// Rows and columns are numbered from 0.
 #[derive(Drop)]
 pub struct System {

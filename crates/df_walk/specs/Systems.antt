@@ -1,4 +1,4 @@
--- A system of rows over columns: whole numbers for which some columns are to be chosen.
+-- A system of rows over columns, from which columns are to be chosen whose entries add up to the target in each row. An orbit matrix is one (Kramer and Mesner 1976).
 use Rattle.std.specs.Prelude.{ℕ, ◌+◌, ◌<◌, if◌then◌else◌, ◌==◌, max, List, [], ◌∷◌, length, map, slice_index, slice_index_or, All}
 use Rattle.std.specs.List.{AllByRecursion, range_with_len}
 use Rattle.std.specs.List.Sorted.{IsStrictlyIncreasing}

@@ -66,7 +66,7 @@ pub fn walks_cut_at_nodes()
     ensures { WalksCutAtNodes }
 {}
 
-/// Whatever the order of branching, a log that proves a list from nothing decided lists each solution once (Kramer and Mesner's method decides columns in any order).
+/// Whatever the order of branching, a log that proves a list from nothing decided lists each solution once and nothing else.
 pub fn logs_are_complete()
     ensures { LogsAreComplete }
 {}
