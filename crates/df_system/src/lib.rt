@@ -1,13 +1,9 @@
-// A library with one function.
+//! Systems of rows over columns as the solver holds them, and partial assignments whose needs and caps are kept up to date along one column at each decision.
+//! It stands on `df_walk`, whose words its contracts use and whose types it passes on, and on the counter of `df_steps`.
+//! The crates above read entries by `System::entry` and make decisions by a `Partial`, both of which count their steps, and ask for needs, caps, and the least row that is over or under.
 #![tactic(auto)]
 
-ghost use Rattle.std.specs.Prelude.{◌≡◌};
-ghost use Rattle.df_system.specs.Echo.{echo_of};
+pub mod system;
 
-// The `ensures` clause is the contract: what `echo` returns is `echo_of` of its argument, a definition
-// in `specs/Echo.antt`, which a caller's clause can cite too.
-pub fn echo(x: usize) -> usize
-    ensures { result ≡ echo_of x }
-{
-    x
-}
+pub use df_walk::{Cell, Rules};
+pub use system::{System, SystemError};

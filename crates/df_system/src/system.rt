@@ -1,0 +1,266 @@
+ghost use Rattle.std.specs.Prelude.{◌≡◌, ◌≢◌, ℕ, ◌+◌, ◌-◌, ◌*◌, ◌/◌, ◌%◌, ◌<◌, ◌≤◌, [], ◌∷◌, ◌++◌, length, drop, slice_index, All, IfOk, IfErr, IfSome, IsNone, vec_len};
+ghost use Rattle.std.specs.Int.{IsGcd};
+ghost use Rattle.df_walk.specs.Systems.{IsSystem, AreCells, entry_of, entries, entry, target, cells};
+ghost use Rattle.df_walk.specs.Assignments.{common_divisor};
+ghost use Rattle.df_system.specs.Storage.{AreStarts, AreGathered, positive_cells, columns_of, stored, IsDense, IsZeroColumn, IsZeroAmong};
+
+use df_steps::Steps;
+use df_walk::Cell;
+use std::alloc::{AllocError, Global};
+use std::marker::Model;
+use std::sync::ledger::Ledger;
+
+/// A target for each row and the positive entries of each column, at least one in each.
+/// Rows and columns are numbered from 0.
+#[derive(Drop)]
+pub struct System {
+    targets: Vec<u32>,
+    // where each column starts among the cells, and last their number
+    starts: Vec<u32>,
+    cells: Vec<Cell>,
+}
+
+impl Model for System {
+    ghost use Rattle.df_walk.specs.Systems.{System as spec};
+    ghost use Rattle.df_system.specs.Storage.{stored, IsStored};
+
+    ghost Value = { spec };
+
+    ghost view = { λ s. stored s.targets.items s.starts.items s.cells.items };
+
+    ghost invariant = { λ s. IsStored s.targets.items s.starts.items s.cells.items };
+}
+
+/// Why a system can't be made.
+#[derive(Clone, Copy, Debug, Eq, PartialEq)]
+pub enum SystemError {
+    /// The first column without a positive entry.
+    ZeroColumn(u32),
+    OutOfMemory,
+}
+
+/// The entry of a row in a column, by halving.
+fn value_in(column: &[Cell], row: u32) -> u32
+    requires { (rows : ℕ) × AreCells rows column.now }
+    ensures { result ≡ entry_of column.now row }
+{
+    let mut low = 0;
+    let mut high = column.len();
+    while low < high {
+        let middle = low + (high - low) / 2;
+        let cell = column[middle];
+        if cell.row == row {
+            return cell.value;
+        }
+        if cell.row < row {
+            low = middle + 1;
+        } else {
+            high = middle;
+        }
+    }
+    0
+}
+
+/// The greatest common divisor, by Euclid's steps.
+fn greatest_common(mut a: u32, mut b: u32) -> u32
+    ensures { IsGcd a b result }
+{
+    while b != 0 {
+        let rest = a % b;
+        a = b;
+        b = rest;
+    }
+    a
+}
+
+/// Appends a column's positive entries, each with its row.
+fn push_positive(cells: &mut Vec<Cell>, column: &[u32]) -> Result<(), AllocError>
+    requires { length column.now < 4294967296 }
+    ensures { IfOk result (λ _. cells.new.items ≡ cells.old.items ++ positive_cells 0 column.now) }
+{
+    for (row, value) in column.iter().enumerate() {
+        if *value > 0 {
+            cells.push(Cell {
+                row: row as u32,
+                value: *value,
+            })?;
+        }
+    }
+    Ok(())
+}
+
+/// The positive entries of all columns, and where each column's start.
+#[derive(Drop)]
+struct Gathered {
+    starts: Vec<u32>,
+    cells: Vec<Cell>,
+}
+
+/// Gathers the positive entries of columns of so many rows, which stand one after another.
+fn gather(alloc: Global, rows: usize, entries: &[u32]) -> Result<Gathered, AllocError>
+    requires some { 0 < rows }
+    requires few_rows { rows < 4294967296 }
+    requires few { length entries.now ≤ 16777216 }
+    ensures { IfOk result (λ g. AreGathered rows entries.now (length entries.now / rows) g.starts.items g.cells.items) }
+{
+    let columns = entries.len() / rows;
+    let positive = entries.iter().filter(|entry| **entry > 0).count();
+    let mut starts = Vec::with_capacity(alloc, columns + 1)?;
+    let mut cells = Vec::with_capacity(alloc, positive)?;
+    starts.push(0)?;
+    for column in 0..columns {
+        let start = column * rows;
+        push_positive(&mut cells, &entries[start..start + rows])?;
+        starts.push(cells.len() as u32)?;
+    }
+    Ok(Gathered { starts, cells })
+}
+
+/// The first column without a cell.
+fn first_empty(starts: &[u32]) -> Option<u32>
+    requires some { 0 < length starts.now }
+    requires few { length starts.now ≤ 16777217 }
+    ensures none { IsNone result → (k : ℕ) → k + 1 < length starts.now → slice_index starts.now k ≢ slice_index starts.now (k + 1) }
+    ensures found { IfSome result (λ c. (c + 1 < length starts.now) × (slice_index starts.now c ≡ slice_index starts.now (c + 1)) × ((k : ℕ) → k < c → slice_index starts.now k ≢ slice_index starts.now (k + 1))) }
+{
+    for column in 0..starts.len() - 1 {
+        if starts[column] == starts[column + 1] {
+            return Some(column as u32);
+        }
+    }
+    None
+}
+
+impl System {
+    /// A system of these parts, if each column has a cell.
+    fn from_parts(
+        targets: Vec<u32>,
+        starts: Vec<u32>,
+        cells: Vec<Cell>,
+    ) -> Result<System, SystemError>
+        requires starts { AreStarts starts.items (length cells.items) }
+        requires columns { All (AreCells (length targets.items)) (columns_of starts.items cells.items) }
+        requires few_rows { vec_len targets < 4294967296 }
+        requires few_columns { vec_len starts ≤ 16777217 }
+        requires few_cells { vec_len cells ≤ 16777216 }
+        ensures ok { IfOk result (λ s. s ≡ stored targets.items starts.items cells.items) }
+        ensures system { IfOk result IsSystem }
+        ensures zero_column { IfErr result (IsZeroColumn (columns_of starts.items cells.items)) }
+    {
+        if let Some(column) = first_empty(&starts) {
+            return Err(SystemError::ZeroColumn(column));
+        }
+        Ok(System {
+            targets,
+            starts,
+            cells,
+        })
+    }
+
+    /// A system of these targets, with the entries column after column, each column's by its rows.
+    ///
+    /// The conditions: there is a row, there are fewer than 4,294,967,296, and the number of entries is a multiple of theirs and at most 16,777,216.
+    /// `ZeroColumn` comes exactly where a column has no positive entry, with the first such column, but where memory is wanted first.
+    pub fn new(alloc: Global, targets: Vec<u32>, entries: Vec<u32>) -> Result<System, SystemError>
+        requires row { 0 < vec_len targets }
+        requires few_rows { vec_len targets < 4294967296 }
+        requires whole_columns { vec_len entries % vec_len targets ≡ 0 }
+        requires few { vec_len entries ≤ 16777216 }
+        ensures ok { IfOk result (IsDense targets.items entries.items) }
+        ensures zero_column { IfErr result (IsZeroAmong (length targets.items) entries.items) }
+    {
+        let Ok(gathered) = gather(alloc, targets.len(), &entries) else {
+            return Err(SystemError::OutOfMemory);
+        };
+        System::from_parts(targets, gathered.starts, gathered.cells)
+    }
+
+    /// A system of these targets and cells: column k has the cells from place `starts[k]` up to `starts[k + 1]`.
+    ///
+    /// The conditions: `starts` begins with 0, doesn't fall, ends with the number of cells, and has one number more than there are columns.
+    /// In each column the rows increase and are in range, and the values are positive.
+    /// There are at most 16,777,216 cells and 65,536 columns, and fewer than 4,294,967,296 rows; there may be none.
+    /// `ZeroColumn` comes exactly where a column has no cell, with the first such column.
+    pub fn sparse(
+        _alloc: Global,
+        targets: Vec<u32>,
+        starts: Vec<u32>,
+        cells: Vec<Cell>,
+    ) -> Result<System, SystemError>
+        requires starts { AreStarts starts.items (length cells.items) }
+        requires columns { All (AreCells (length targets.items)) (columns_of starts.items cells.items) }
+        requires few_rows { vec_len targets < 4294967296 }
+        requires few_columns { vec_len starts ≤ 65537 }
+        requires few_cells { vec_len cells ≤ 16777216 }
+        ensures ok { IfOk result (λ s. s ≡ stored targets.items starts.items cells.items) }
+        ensures system { IfOk result IsSystem }
+        ensures zero_column { IfErr result (IsZeroColumn (columns_of starts.items cells.items)) }
+    {
+        System::from_parts(targets, starts, cells)
+    }
+
+    /// The number of rows.
+    pub fn rows(&self) -> u32
+        ensures value { result ≡ length self.now.targets }
+        ensures system { IsSystem self.now }
+    {
+        self.targets.len() as u32
+    }
+
+    /// The number of columns.
+    pub fn columns(&self) -> u32
+        ensures value { result ≡ length self.now.columns }
+        ensures few { result ≤ 16777216 }
+        ensures system { IsSystem self.now }
+    {
+        (self.starts.len() - 1) as u32
+    }
+
+    /// The target of a row.
+    pub fn target(&self, row: u32) -> u32
+        requires { row < length self.now.targets }
+        ensures { result ≡ target self.now row }
+    {
+        self.targets[row as usize]
+    }
+
+    /// The cells of a column.
+    pub(crate) fn column(&self, column: u32) -> &[Cell]
+        requires { column < length self.now.columns }
+        ensures value { result.now ≡ cells self.now column }
+        ensures sorted { AreCells (length self.now.targets) result.now }
+    {
+        let start = self.starts[column as usize] as usize;
+        let end = self.starts[column as usize + 1] as usize;
+        &self.cells[start..end]
+    }
+
+    /// The entry of a row and a column. It counts one step.
+    pub fn entry<L: Ledger>(&self, row: u32, column: u32, steps: &mut Steps<L>) -> u32
+        requires row { row < length self.now.targets }
+        requires column { column < length self.now.columns }
+        ensures value { result ≡ entry self.now row column }
+        ensures cost { steps.new ≡ steps.old + 1 }
+    {
+        steps.tick();
+        value_in(self.column(column), row)
+    }
+
+    /// The greatest common divisor of a row's entries in the columns from `from` on, and 0 where all are 0. It counts no step.
+    pub fn divisor(&self, row: u32, from: u32) -> u32
+        requires row { row < length self.now.targets }
+        requires from { from ≤ length self.now.columns }
+        ensures { result ≡ common_divisor (drop from (entries self.now row)) }
+    {
+        let mut divisor = 0;
+        let mut column = self.columns();
+        while from < column {
+            column -= 1;
+            divisor = greatest_common(value_in(self.column(column), row), divisor);
+            if divisor == 1 {
+                return 1;
+            }
+        }
+        divisor
+    }
+}
