@@ -1,9 +1,15 @@
+ghost use Rattle.std.specs.Prelude.{◌≡◌, ◌<◌};
+
 use crate::Steps;
 use std::marker::Brand;
 use std::sync::ledger::{Blank, Ledger};
 
-fn count_bytes<L: Ledger>(bytes: &[u8], steps: &mut Steps<L>)
+fn count_bytes<L: Ledger>(bytes: &[u8], blank: Blank)
+    requires name { blank.name ≡ L.name }
+    requires parts { blank.parts ≡ L.parts }
+    requires some { 0 < blank.parts }
 {
+    let mut steps = Steps::<L>::new(blank);
     for _byte in bytes {
         steps.tick();
     }
@@ -11,7 +17,6 @@ fn count_bytes<L: Ledger>(bytes: &[u8], steps: &mut Steps<L>)
 }
 
 #[test]
-fn a_counter_is_passed_on() {
-    let mut steps = Steps::<Brand>::new(Blank::new(1));
-    count_bytes(b"seven", &mut steps);
+fn a_call_counts_for_itself() {
+    count_bytes::<Brand>(b"seven", Blank::new(1));
 }

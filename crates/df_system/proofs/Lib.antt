@@ -5,3 +5,9 @@ pub mod PositiveCells
 pub mod GatheredColumns
 pub mod SystemParts
 pub mod DenseSystems
+pub mod CountedTallies
+pub mod ColumnChanges
+pub mod DecisionTrails
+pub mod PartialSteps
+pub mod TalliesAtStart
+pub mod IncreasingColumns

@@ -1,1 +1,3 @@
 pub mod Storage
+pub mod Tallies
+pub mod Trails

@@ -3,7 +3,15 @@
 //! The crates above read entries by `System::entry` and make decisions by a `Partial`, both of which count their steps, and ask for needs, caps, and the least row that is over or under.
 #![tactic(auto)]
 
+pub mod partial;
+pub mod path;
 pub mod system;
+mod tallies;
 
 pub use df_walk::{Cell, Rules};
+pub use partial::Partial;
+pub use path::Path;
 pub use system::{System, SystemError};
+
+/// Want of memory.
+pub type OutOfMemory = std::alloc::AllocError;

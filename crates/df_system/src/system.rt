@@ -1,7 +1,7 @@
 ghost use Rattle.std.specs.Prelude.{◌≡◌, ◌≢◌, ℕ, ◌+◌, ◌-◌, ◌*◌, ◌/◌, ◌%◌, ◌<◌, ◌≤◌, [], ◌∷◌, ◌++◌, length, drop, slice_index, All, IfOk, IfErr, IfSome, IsNone, vec_len};
 ghost use Rattle.std.specs.Int.{IsGcd};
 ghost use Rattle.df_walk.specs.Systems.{IsSystem, AreCells, entry_of, entries, entry, target, cells};
-ghost use Rattle.df_walk.specs.Assignments.{common_divisor};
+ghost use Rattle.df_walk.specs.Assignments.{cap, common_divisor};
 ghost use Rattle.df_system.specs.Storage.{AreStarts, AreGathered, positive_cells, columns_of, stored, IsDense, IsZeroColumn, IsZeroAmong};
 
 use df_steps::Steps;
@@ -233,6 +233,15 @@ impl System {
         let start = self.starts[column as usize] as usize;
         let end = self.starts[column as usize + 1] as usize;
         &self.cells[start..end]
+    }
+
+    /// The cells of all columns, one after another.
+    pub(crate) fn all_cells(&self) -> &[Cell]
+        ensures few { length result.now ≤ 16777216 }
+        ensures rows { All (λ cell. cell.row < length self.now.targets) result.now }
+        ensures sums { (row : ℕ) → entry_of result.now row ≡ cap (entries self.now row) [] }
+    {
+        &self.cells
     }
 
     /// The entry of a row and a column. It counts one step.

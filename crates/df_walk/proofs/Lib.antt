@@ -22,3 +22,5 @@ pub mod WalkLogs
 pub mod DecisionLaws
 pub mod WalkCuts
 pub mod NeedBounds
+pub mod WrittenPaths
+pub mod ColumnWidths

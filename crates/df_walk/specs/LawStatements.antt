@@ -3,11 +3,11 @@ use Rattle.std.specs.Prelude.{◌≡◌, ◌↔◌, ℕ, ◌+◌, ◌*◌, ◌%�
 use Rattle.std.specs.List.Sorted.{IsPermutation}
 use Rattle.df_walk.specs.declared.Rules.{Rules}
 use Rattle.df_walk.specs.declared.Entry.{Entry}
-use Rattle.df_walk.specs.Systems.{System, IsSystem, entries, entry, target}
+use Rattle.df_walk.specs.Systems.{System, IsSystem, entries, entry, target, cells, widest}
 use Rattle.df_walk.specs.Assignments.{Decisions, taken, cap, divisor, common_divisor, is_settled}
 use Rattle.df_walk.specs.Solutions.{keeps, is_solution, solutions, solutions_with, yes_vector, chosen_columns}
 use Rattle.df_walk.specs.Walks.{Step, decided, walk, solutions_in, nodes_in, entries_in}
-use Rattle.df_walk.specs.Paths.{is_node, nodes, not_before, rest, load}
+use Rattle.df_walk.specs.Paths.{is_node, nodes, not_before, rest, load, WrittenPath, IsWritten, path_of, written_path}
 use Rattle.df_walk.specs.Remains.{walk_on}
 use Rattle.df_walk.specs.Logs.{Proves, AreLogs, Completes}
 
@@ -88,3 +88,12 @@ WalksAreLogs = (rules : Rules) (s : System) → IsSystem s → Proves s (replica
 -- logs one for each of the decisions are what completes them entry by entry
 abbrev pub LogsComplete : Type 0
 LogsComplete = (s : System) (wanted : List Decisions) (E : List Entry) (L : List (List ℕ)) → AreLogs s wanted E L ↔ Completes s wanted E L
+
+-- a path and its written form give each other back
+pub record PathsAreRead : Type 0 where
+  pub read_back : (p : List Bool) → path_of (written_path p) ≡ p
+  pub written_back : (w : WrittenPath) → IsWritten w → written_path (path_of w) ≡ w
+
+-- no column has more positive entries than the widest
+abbrev pub ColumnsAreNoWider : Type 0
+ColumnsAreNoWider = (s : System) (column : ℕ) → length (cells s column) ≤ widest s.columns

@@ -1,11 +1,12 @@
 -- Paths, nodes, and what isn't before a path: the rest and the load.
-use Rattle.std.specs.Prelude.{ℕ, suc, zero, Bool, true, false, not, ◌&&◌, ◌||◌, List, [], ◌∷◌, ◌++◌, length, map, filter}
-use Rattle.std.specs.List.{list_all}
+use Rattle.std.specs.Prelude.{ℕ, suc, zero, ◌<◌, Bool, true, false, not, ◌&&◌, ◌||◌, ◌==◌, List, [], ◌∷◌, ◌++◌, length, map, filter, All}
+use Rattle.std.specs.List.{list_all, list_any, range_with_len}
+use Rattle.std.specs.List.Sorted.{IsStrictlyIncreasing}
 use Rattle.df_walk.specs.declared.Rules.{Rules}
 use Rattle.df_walk.specs.declared.Rules.TheVariants.{Plain, Divisor}
 use Rattle.df_walk.specs.Systems.{System, rows_of}
 use Rattle.df_walk.specs.Assignments.{Decisions, is_over, is_under, has_residue, is_settled}
-use Rattle.df_walk.specs.Solutions.{solutions}
+use Rattle.df_walk.specs.Solutions.{solutions, chosen_columns}
 use Rattle.df_walk.specs.Walks.{decided}
 
 -- by the rules, the row doesn't rule the decisions out: its need is from 0 to its cap, and by the divisor's rules a multiple of its divisor where that is at least 2
@@ -53,3 +54,21 @@ rest s p = filter (not_before p) (solutions s)
 -- how many nodes aren't before p
 abbrev pub load : Rules → System → List Bool → ℕ
 load rules s p = length (filter (not_before p) (nodes rules s))
+
+-- a path as it is written: how many columns it decides, and which of them with yes, increasing
+pub record WrittenPath : Type 0 where
+  pub size : ℕ
+  pub chosen : List ℕ
+
+-- the numbers increase, and are those of columns that it decides
+pub record IsWritten (p : WrittenPath) : Type 0 where
+  pub increasing : IsStrictlyIncreasing p.chosen
+  pub within : All (λ column. column < p.size) p.chosen
+
+-- the decisions of a written path: yes at the chosen columns
+abbrev pub path_of : WrittenPath → List Bool
+path_of p = map (λ column. list_any (λ c. c == column) p.chosen) (range_with_len 0 p.size)
+
+-- a path, written
+abbrev pub written_path : List Bool → WrittenPath
+written_path p = record { size = length p; chosen = chosen_columns p }

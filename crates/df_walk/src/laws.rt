@@ -12,6 +12,8 @@ ghost use Rattle.df_walk.specs.LawStatements.{
   LogsAreComplete,
   WalksAreLogs,
   LogsComplete,
+  PathsAreRead,
+  ColumnsAreNoWider,
 };
 
 /// What a decision does to each row's need and cap.
@@ -77,4 +79,14 @@ pub fn walks_are_logs()
 /// The logs of several assignments, one after the other, are judged entry by entry.
 pub fn logs_complete()
     ensures { LogsComplete }
+{}
+
+/// What is written of a path gives it back, and what is read of a written path is written so again.
+pub fn paths_are_read()
+    ensures { PathsAreRead }
+{}
+
+/// No column has more positive entries than the widest.
+pub fn columns_are_no_wider()
+    ensures { ColumnsAreNoWider }
 {}
