@@ -1,0 +1,4 @@
+pub mod StandingPaths
+pub mod HeldNeeds
+pub mod SearchSteps
+pub mod PassedSteps

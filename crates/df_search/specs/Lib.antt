@@ -1,0 +1,2 @@
+pub mod HeldPaths
+pub mod Searches
