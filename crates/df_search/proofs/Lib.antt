@@ -2,3 +2,4 @@ pub mod StandingPaths
 pub mod HeldNeeds
 pub mod SearchSteps
 pub mod PassedSteps
+pub mod FollowedPaths

@@ -1,15 +1,17 @@
-ghost use Rattle.std.specs.Prelude.{◌≡◌, ℕ, ◌+◌, ◌-◌, ◌*◌, ◌<◌, ◌≤◌, [], ◌∷◌, ◌++◌, length, Some, None, IfOk, IsSome, Bool, true, false};
+ghost use Rattle.std.specs.Prelude.{◌≡◌, ℕ, ◌+◌, ◌-◌, ◌*◌, ◌<◌, ◌≤◌, [], ◌∷◌, ◌++◌, length, Some, None, IfOk, IfErr, IsSome, IsNone, IfSome, Bool, true, false, ◌==◌};
+ghost use Rattle.std.specs.List.{list_any};
 ghost use Rattle.df_walk.specs.Systems.{widest};
 ghost use Rattle.df_walk.specs.Walks.{walk, solutions_in, nodes_in};
-ghost use Rattle.df_walk.specs.Paths.{not_before, rest, load};
+ghost use Rattle.df_walk.specs.Paths.{path_of, settled_before, rest, load};
 ghost use Rattle.df_walk.specs.Remains.{turned};
 ghost use Rattle.df_search.specs.HeldPaths.{TurnsTo};
+ghost use Rattle.df_search.specs.Resumptions.{Resumes, Refuses, IsFirstSettled, why_of};
 ghost use Rattle.df_search.specs.Searches.{begun, Advances, Turns, calls_of, next_path_of, IsReady, Answers};
 
 use crate::held_path::{HeldPath, Verdict};
-use crate::{Event, OutOfMemory, PathView, Turn};
+use crate::{Event, OutOfMemory, PathView, ResumeError, Turn, Why};
 use df_steps::Steps;
-use df_system::System;
+use df_system::{Path, System};
 use df_walk::Rules;
 use std::alloc::Global;
 use std::marker::Model;
@@ -101,6 +103,44 @@ fn answer(verdict: Verdict, length: u32, budget: &mut u64) -> (State, Event)
     }
 }
 
+/// Why a path of this verdict isn't a node, if it isn't.
+fn why_not(verdict: Verdict) -> Option<Why>
+    ensures { result ≡ why_of verdict }
+{
+    match verdict {
+        Verdict::Over(row) => Some(Why::Over(row)),
+        Verdict::Under(row) => Some(Why::Under(row)),
+        Verdict::Residue(row, _) => Some(Why::Residue(row)),
+        Verdict::Settled | Verdict::Branch => None,
+    }
+}
+
+/// Whether a column is among the chosen ones.
+fn is_chosen(chosen: &[u32], column: u32) -> bool
+    ensures { result ≡ list_any (λ c. c == column) chosen.now }
+{
+    chosen.iter().any(|c| *c == column)
+}
+
+/// Decides the columns of a path, one after another. It stops before a proper prefix that is settled, and tells its length.
+fn follow<L: Ledger>(held: &mut HeldPath<'_>, path: &Path, steps: &mut Steps<L>) -> Option<u32>
+    requires empty { held.old.path ≡ [] }
+    requires fits { path.now.size ≤ length held.old.system.columns }
+    ensures whole { IsNone result → (held.new.path ≡ path_of path.now) × (settled_before held.old.system (path_of path.now) ≡ false) }
+    ensures settled { IfSome result (IsFirstSettled held.old.system (path_of path.now)) }
+    ensures system { held.new.system ≡ held.old.system }
+    ensures cost { steps.new ≤ steps.old + widest held.old.system.columns * path.now.size }
+{
+    let chosen = path.chosen();
+    for column in 0..path.length() {
+        if held.is_settled() {
+            return Some(column);
+        }
+        held.extend(is_chosen(chosen, column), steps);
+    }
+    None
+}
+
 impl<'m> Search<'m> {
     /// A search at the empty path: the whole walk remains.
     pub fn new<L: Ledger>(
@@ -113,6 +153,43 @@ impl<'m> Search<'m> {
         ensures cost { steps.new ≡ steps.old }
     {
         let held = HeldPath::new(alloc, system)?;
+        Ok(Search {
+            held,
+            rules,
+            state: State::Here,
+        })
+    }
+
+    /// A search at a node: the part of the walk that isn't before it remains.
+    ///
+    /// `PathRange` comes exactly where the path is longer than the columns, and `NotNode` exactly where it isn't a node, but where memory is wanted.
+    /// Of the reasons, a settled proper prefix is told first.
+    pub fn resume<L: Ledger>(
+        alloc: Global,
+        system: &'m System,
+        path: &Path,
+        rules: Rules,
+        steps: &mut Steps<L>,
+    ) -> Result<Search<'m>, ResumeError>
+        ensures ok { IfOk result (Resumes rules system.now (path_of path.now)) }
+        ensures refusal { IfErr result (Refuses rules system.now path.now) }
+        ensures cost { steps.new ≤ steps.old + widest system.now.columns * path.now.size }
+        ensures no_cost { length system.now.columns < path.now.size → steps.new ≡ steps.old }
+    {
+        let length = path.length();
+        let columns = system.columns();
+        if length > columns {
+            return Err(ResumeError::PathRange { length, columns });
+        }
+        let Ok(mut held) = HeldPath::new(alloc, system) else {
+            return Err(ResumeError::OutOfMemory);
+        };
+        if let Some(length) = follow(&mut held, path, steps) {
+            return Err(ResumeError::NotNode(Why::SettledBefore(length)));
+        }
+        if let Some(why) = why_not(held.judge(rules)) {
+            return Err(ResumeError::NotNode(why));
+        }
         Ok(Search {
             held,
             rules,
