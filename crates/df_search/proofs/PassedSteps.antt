@@ -1,0 +1,169 @@
+-- Entries that a search passes.
+use Rattle.std.proofs.Common.{◌≡◌, ℕ, suc, zero, ◌+◌, ◌-◌, ◌*◌, ◌≤◌, ◌<◌, Bool, List, [], ◌∷◌, ◌++◌, length, Some, refl, sym, ap, ◌∙◌, subst, arith, length-append}
+use Rattle.std.proofs.lemmas.List.{append_assoc}
+use Rattle.std.proofs.lemmas.List.Elements.{filter_map-append}
+use Rattle.df_walk.specs.declared.Entry.TheVariants as entry
+use Rattle.df_walk.specs.Systems.{System}
+use Rattle.df_walk.specs.Solutions.{yes_vector}
+use Rattle.df_walk.specs.Walks.{Step, decided, solution_of, solutions_in, node_of, nodes_in}
+use Rattle.df_search.specs.declared.Event.{Event}
+use Rattle.df_search.specs.declared.Event.TheVariants.{Solution, Spent, Finished}
+use Rattle.df_search.specs.Searches.{Searching, AdvancesBy, Advances, Passes, Finds, Stops, Ends, answered, solved, stopped, ended}
+
+-- nothing is passed yet
+pub none_passed : (q : Searching) (budget : ℕ) → Passes q budget q budget []
+none_passed q budget = record { passed = []; joined = refl; solutions = refl; nodes = omega arith; system = refl; rules = refl }
+
+-- how many entries were passed
+pub passed_count : {q new : Searching} {budget after : ℕ} {found : List (List Bool)} → Passes q budget new after found → length new.left ≤ length q.left
+passed_count {q} {new} h = let e = ap length h.joined in omega (arith, length-append h.passed new.left)
+
+-- one more entry
+pass_one : {q mid : Searching} {budget b : ℕ} (x : Step) (new : Searching) (after : ℕ) (found : List (List Bool)) → Passes q budget mid b [] → mid.left ≡ x ∷ new.left → new.system ≡ mid.system → new.rules ≡ mid.rules → solutions_in q.system (x ∷ []) ≡ found → b ≡ length (nodes_in (x ∷ [])) + after → Passes q budget new after found
+pass_one {q} {mid} {budget} {b} x new after found h is system rules found_is nodes =
+    record {
+      passed = h.passed ++ x ∷ [];
+      joined = h.joined ∙ ap (λ l. h.passed ++ l) is ∙ sym (append_assoc h.passed (x ∷ []) new.left);
+      solutions = filter_map-append (solution_of q.system) h.passed (x ∷ []) ∙ rw (h.solutions, found_is) refl;
+      nodes = let e = ap length (filter_map-append node_of h.passed (x ∷ [])) in omega (arith, h.nodes, length-append (nodes_in h.passed) (nodes_in (x ∷ [])));
+      system = system ∙ h.system;
+      rules = rules ∙ h.rules;
+    }
+
+-- an entry that is no solution was passed, and what is left is shorter
+pub record Skips (q : Searching) (budget : ℕ) (mid new : Searching) (after : ℕ) : Type 0 where
+  pub passes : Passes q budget new after []
+  pub shorter : length mid.left ≡ length new.left + 1
+
+skip_one : {q mid : Searching} {budget b : ℕ} (x : Step) (new : Searching) (more : List Step) (after : ℕ) → Passes q budget mid b [] → mid.left ≡ x ∷ more → new ≡ answered mid x.0 more → solutions_in q.system (x ∷ []) ≡ [] → b ≡ length (nodes_in (x ∷ [])) + after → Skips q budget mid new after
+skip_one {q} {mid} x new more after h is new_is none nodes =
+    let left : new.left ≡ more = ap (λ n. n.left) new_is in
+    let first : mid.left ≡ x ∷ new.left = is ∙ ap (λ l. x ∷ l) (sym left) in
+    let e = ap length first in
+    record { passes = pass_one x new after [] h first (ap (λ n. n.system) new_is) (ap (λ n. n.rules) new_is) none nodes; shorter = omega arith }
+
+pub skips : {q : Searching} {budget : ℕ} (mid new : Searching) (b after : ℕ) (e : Event) → Passes q budget mid b [] → Advances mid b e new after → (e ≡ Solution → ⊥) → (e ≡ Spent → ⊥) → (e ≡ Finished → ⊥) → Skips q budget mid new after
+skips {q} {budget} mid new b after e h a n1 n2 n3 = go mid.left b refl h a
+  where
+    go : (l : List Step) (b : ℕ) → mid.left ≡ l → Passes q budget mid b [] → AdvancesBy mid l b e new after → Skips q budget mid new after
+    go [] b is h a = absurd (n3 a.0)
+    go ((p, entry.Over r) ∷ more) b is h a = skip_one (p, entry.Over r) new more after h is a.1 refl (omega (arith, a.2))
+    go ((p, entry.Under r) ∷ more) b is h a = skip_one (p, entry.Under r) new more after h is a.1 refl (omega (arith, a.2))
+    go ((p, entry.Residue r m) ∷ more) b is h a = skip_one (p, entry.Residue r m) new more after h is a.1 refl (omega (arith, a.2))
+    go ((p, entry.Cut ws) ∷ more) b is h a = absurd a
+    go ((p, entry.Settled) ∷ more) zero is h a = absurd (n2 a.0)
+    go ((p, entry.Settled) ∷ more) (suc b) is h a = absurd (n1 a.0)
+    go ((p, entry.Branch c) ∷ more) zero is h a = absurd (n2 a.0)
+    go ((p, entry.Branch c) ∷ more) (suc b) is h a = skip_one (p, entry.Branch c) new more after h is a.1 refl (omega (arith, a.2))
+
+-- a solution is found
+pub record FindsNext (q : Searching) (budget : ℕ) (mid new : Searching) (after : ℕ) : Type 0 where
+  pub finds : Finds q budget new after
+  pub shorter : length mid.left ≡ length new.left + 1
+
+pub finds_next : {q : Searching} {budget : ℕ} (mid new : Searching) (b after : ℕ) → Passes q budget mid b [] → Advances mid b Solution new after → FindsNext q budget mid new after
+finds_next {q} {budget} mid new b after h a = go mid.left b refl h a
+  where
+    go : (l : List Step) (b : ℕ) → mid.left ≡ l → Passes q budget mid b [] → AdvancesBy mid l b Solution new after → FindsNext q budget mid new after
+    go [] b is h a = absurd (let e = a.0 in cc)
+    go ((p, entry.Over r) ∷ more) b is h a = absurd (let e = a.0 in cc)
+    go ((p, entry.Under r) ∷ more) b is h a = absurd (let e = a.0 in cc)
+    go ((p, entry.Residue r m) ∷ more) b is h a = absurd (let e = a.0 in cc)
+    go ((p, entry.Cut ws) ∷ more) b is h a = absurd a
+    go ((p, entry.Settled) ∷ more) zero is h a = absurd (let e = a.0 in cc)
+    go ((p, entry.Settled) ∷ more) (suc b) is h a =
+        let x = yes_vector (length q.system.columns) (decided p) in
+        let left : new.left ≡ more = ap (λ n. n.left) a.1 in
+        let first : mid.left ≡ (p, entry.Settled) ∷ new.left = is ∙ ap (λ l. (p, entry.Settled) ∷ l) (sym left) in
+        let e = ap length first in
+        record {
+          finds = record {
+            solution = x;
+            passes = pass_one (p, entry.Settled) new after (x ∷ []) h first (ap (λ n. n.system) a.1) (ap (λ n. n.rules) a.1) refl (omega (arith, a.2));
+            chosen = ap (λ n. n.chosen) a.1 ∙ ap (λ s. Some (yes_vector (length s.columns) (decided p))) h.system;
+          };
+          shorter = omega arith;
+        }
+    go ((p, entry.Branch c) ∷ more) zero is h a = absurd (let e = a.0 in cc)
+    go ((p, entry.Branch c) ∷ more) (suc b) is h a = absurd (let e = a.0 in cc)
+
+-- the search stays
+stop_one : {q mid : Searching} {budget b : ℕ} (x : Step) (new : Searching) (more : List Step) (after : ℕ) → Passes q budget mid b [] → mid.left ≡ x ∷ more → new ≡ stopped mid x.0 → b ≡ 0 → after ≡ 0 → 0 < length (nodes_in (x ∷ more)) → Stops q budget new after
+stop_one {q} {mid} {budget} {b} x new more after h is new_is none spent some =
+    let left : new.left ≡ mid.left = ap (λ n. n.left) new_is in
+    record {
+      passes = record {
+        passed = h.passed;
+        joined = h.joined ∙ ap (λ l. h.passed ++ l) (sym left);
+        solutions = h.solutions;
+        nodes = omega (arith, h.nodes);
+        system = ap (λ n. n.system) new_is ∙ h.system;
+        rules = ap (λ n. n.rules) new_is ∙ h.rules;
+      };
+      spent = spent;
+      place = rw new_is refl;
+      more = rw (left ∙ is) some;
+    }
+
+pub stops : {q : Searching} {budget : ℕ} (mid new : Searching) (b after : ℕ) → Passes q budget mid b [] → Advances mid b Spent new after → Stops q budget new after
+stops {q} {budget} mid new b after h a = go mid.left b refl h a
+  where
+    go : (l : List Step) (b : ℕ) → mid.left ≡ l → Passes q budget mid b [] → AdvancesBy mid l b Spent new after → Stops q budget new after
+    go [] b is h a = absurd (let e = a.0 in cc)
+    go ((p, entry.Over r) ∷ more) b is h a = absurd (let e = a.0 in cc)
+    go ((p, entry.Under r) ∷ more) b is h a = absurd (let e = a.0 in cc)
+    go ((p, entry.Residue r m) ∷ more) b is h a = absurd (let e = a.0 in cc)
+    go ((p, entry.Cut ws) ∷ more) b is h a = absurd a
+    go ((p, entry.Settled) ∷ more) zero is h a = stop_one (p, entry.Settled) new more after h is a.1 refl a.2 (omega arith)
+    go ((p, entry.Settled) ∷ more) (suc b) is h a = absurd (let e = a.0 in cc)
+    go ((p, entry.Branch c) ∷ more) zero is h a = stop_one (p, entry.Branch c) new more after h is a.1 refl a.2 (omega arith)
+    go ((p, entry.Branch c) ∷ more) (suc b) is h a = absurd (let e = a.0 in cc)
+
+-- the length of what is left stays, where the search does
+pub stops_left : (mid new : Searching) (b after : ℕ) → Advances mid b Spent new after → length new.left ≡ length mid.left
+stops_left mid new b after a = go mid.left b a
+  where
+    go : (l : List Step) (b : ℕ) → AdvancesBy mid l b Spent new after → length new.left ≡ length mid.left
+    go [] b a = absurd (let e = a.0 in cc)
+    go ((p, entry.Over r) ∷ more) b a = absurd (let e = a.0 in cc)
+    go ((p, entry.Under r) ∷ more) b a = absurd (let e = a.0 in cc)
+    go ((p, entry.Residue r m) ∷ more) b a = absurd (let e = a.0 in cc)
+    go ((p, entry.Cut ws) ∷ more) b a = absurd a
+    go ((p, entry.Settled) ∷ more) zero a = ap (λ n. length n.left) a.1
+    go ((p, entry.Settled) ∷ more) (suc b) a = absurd (let e = a.0 in cc)
+    go ((p, entry.Branch c) ∷ more) zero a = ap (λ n. length n.left) a.1
+    go ((p, entry.Branch c) ∷ more) (suc b) a = absurd (let e = a.0 in cc)
+
+-- nothing is left
+pub ends : {q : Searching} {budget : ℕ} (mid new : Searching) (b after : ℕ) → Passes q budget mid b [] → Advances mid b Finished new after → Ends q budget new after × (length new.left ≡ length mid.left)
+ends {q} {budget} mid new b after h a = go mid.left b refl h a
+  where
+    go : (l : List Step) (b : ℕ) → mid.left ≡ l → Passes q budget mid b [] → AdvancesBy mid l b Finished new after → Ends q budget new after × (length new.left ≡ length mid.left)
+    go [] b is h a =
+        let left : new.left ≡ [] = ap (λ n. n.left) a.1 in (
+          record {
+            passes = record {
+              passed = h.passed;
+              joined = h.joined ∙ ap (λ l. h.passed ++ l) (is ∙ sym left);
+              solutions = h.solutions;
+              nodes = omega (arith, h.nodes, a.2);
+              system = ap (λ n. n.system) a.1 ∙ h.system;
+              rules = ap (λ n. n.rules) a.1 ∙ h.rules;
+            };
+            end = left;
+            path = ap (λ n. n.path) a.1;
+          },
+          ap length (left ∙ sym is),
+        )
+    go ((p, entry.Over r) ∷ more) b is h a = absurd (let e = a.0 in cc)
+    go ((p, entry.Under r) ∷ more) b is h a = absurd (let e = a.0 in cc)
+    go ((p, entry.Residue r m) ∷ more) b is h a = absurd (let e = a.0 in cc)
+    go ((p, entry.Cut ws) ∷ more) b is h a = absurd a
+    go ((p, entry.Settled) ∷ more) zero is h a = absurd (let e = a.0 in cc)
+    go ((p, entry.Settled) ∷ more) (suc b) is h a = absurd (let e = a.0 in cc)
+    go ((p, entry.Branch c) ∷ more) zero is h a = absurd (let e = a.0 in cc)
+    go ((p, entry.Branch c) ∷ more) (suc b) is h a = absurd (let e = a.0 in cc)
+
+-- the steps of one more call
+pub cost_more : (w start mid new a m z k j : ℕ) → mid + w * m ≤ start + w * (3 * k + a) → new + w * z ≤ mid + w * (m + 3) → j ≡ k + 1 → new + w * z ≤ start + w * (3 * j + a)
+cost_more w start mid new a m z k j h more is = rw is (omega arith)

@@ -1,0 +1,13 @@
+use Rattle.std.proofs.Common.{◌≡◌, ◌+◌, ◌-◌, ◌*◌, ◌≤◌, length, []}
+use Rattle.df_walk.specs.Systems.{widest}
+use Rattle.df_search.specs.Searches.{Passes}
+use Rattle.df_search.proofs.search.Search.next.Given as goal
+
+abbrev pub invariant-loop : goal.invariant-loop
+invariant-loop g l = record {
+  passes : Passes l.initial.self l.initial.budget l.self l.budget [];
+  cost : l.steps + widest l.initial.self.system.columns * length l.self.path ≤ l.initial.steps + widest l.initial.self.system.columns * (3 * (length l.initial.self.left - length l.self.left) + length l.initial.self.path);
+}
+
+abbrev pub decreases-loop : goal.decreases-loop
+decreases-loop g l = length l.self.left

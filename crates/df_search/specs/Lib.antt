@@ -1,0 +1,3 @@
+pub mod HeldPaths
+pub mod Searches
+pub mod Resumptions

@@ -1,0 +1,174 @@
+-- A search: what remains of the walk, and where the search stands.
+use Rattle.std.specs.Prelude.{◌≡◌, ◌≤◌, ◌<◌, ℕ, zero, suc, ◌+◌, ◌-◌, ◌*◌, ◌⊎◌, Bool, true, false, List, [], ◌∷◌, ◌++◌, length, replicate, Option, Some, None}
+use Rattle.df_walk.specs.declared.Rules.{Rules}
+use Rattle.df_walk.specs.declared.Entry.{Entry}
+use Rattle.df_walk.specs.declared.Entry.TheVariants as entry
+use Rattle.df_walk.specs.Systems.{System, widest}
+use Rattle.df_walk.specs.Solutions.{yes_vector}
+use Rattle.df_walk.specs.Walks.{Step, decided, entry_at, is_branch, walk, solutions_in, nodes_in}
+use Rattle.df_walk.specs.Remains.{later_walk, walk_on, IsVisited, turned}
+use Rattle.df_search.specs.declared.Event.{Event}
+use Rattle.df_search.specs.declared.Event.TheVariants.{Branch, Over, Under, Residue, Solution, Spent, Finished}
+use Rattle.df_search.specs.declared.Turn.{Turn}
+use Rattle.df_search.specs.declared.Turn.TheVariants as turn
+use Rattle.df_search.specs.declared.search.State.{State}
+use Rattle.df_search.specs.declared.search.State.TheVariants.{Here, Below, Past, Solved, Done}
+use Rattle.df_search.specs.declared.held_path.Verdict.{Verdict}
+use Rattle.df_search.specs.declared.held_path.Verdict.TheVariants as verdict
+use Rattle.df_search.specs.HeldPaths.{Held}
+
+pub record Searching : Type 0 where
+  pub system : System
+  pub rules : Rules
+  -- the entries of the walk that are still to come, each with its path
+  pub left : List Step
+  -- the path of the last entry answered: before any, where the search began; after `Spent`, where it goes on; after `Finished`, the empty path
+  pub path : List Bool
+  -- the path at which the walk goes on, where no call was made yet or the last answer was `Spent`
+  pub place : Option (List Bool)
+  -- the solution, where that was the last answer: a value for each column
+  pub chosen : Option (List Bool)
+
+-- a search at a path, of which no call was made
+abbrev pub begun : System → Rules → List Bool → List Step → Searching
+begun s rules p left = record { system = s; rules = rules; left = left; path = p; place = Some p; chosen = None }
+
+-- the search once the entry at a path is answered, and once it is answered as a solution
+abbrev pub answered : Searching → List Bool → List Step → Searching
+answered q p more = record q { left = more; path = p; place = None; chosen = None }
+
+abbrev pub solved : Searching → List Bool → List Step → Searching
+solved q p more = record q { left = more; path = p; place = None; chosen = Some (yes_vector (length q.system.columns) (decided p)) }
+
+-- the search that stays before the entry at a path
+abbrev pub stopped : Searching → List Bool → Searching
+stopped q p = record q { path = p; place = Some p; chosen = None }
+
+-- the search with nothing left
+abbrev pub ended : Searching → Searching
+ended q = record q { left = []; path = []; place = None; chosen = None }
+
+-- the answer by what is left: its first entry, if the budget allows it, or else that the budget is spent or nothing is left
+abbrev pub AdvancesBy : Searching → List Step → ℕ → Event → Searching → ℕ → Type 0
+AdvancesBy q [] budget event new after = (event ≡ Finished) × (new ≡ ended q) × (after ≡ budget)
+AdvancesBy q ((p, entry.Over r) ∷ more) budget event new after = (event ≡ Over r) × (new ≡ answered q p more) × (after ≡ budget)
+AdvancesBy q ((p, entry.Under r) ∷ more) budget event new after = (event ≡ Under r) × (new ≡ answered q p more) × (after ≡ budget)
+AdvancesBy q ((p, entry.Residue r m) ∷ more) budget event new after = (event ≡ Residue r m) × (new ≡ answered q p more) × (after ≡ budget)
+AdvancesBy q ((p, entry.Cut ws) ∷ more) budget event new after = ⊥
+AdvancesBy q ((p, entry.Settled) ∷ more) zero event new after = (event ≡ Spent) × (new ≡ stopped q p) × (after ≡ 0)
+AdvancesBy q ((p, entry.Settled) ∷ more) (suc n) event new after = (event ≡ Solution) × (new ≡ solved q p more) × (after ≡ n)
+AdvancesBy q ((p, entry.Branch c) ∷ more) zero event new after = (event ≡ Spent) × (new ≡ stopped q p) × (after ≡ 0)
+AdvancesBy q ((p, entry.Branch c) ∷ more) (suc n) event new after = (event ≡ Branch c) × (new ≡ answered q p more) × (after ≡ n)
+
+abbrev pub Advances : Searching → ℕ → Event → Searching → ℕ → Type 0
+Advances q budget event new after = AdvancesBy q q.left budget event new after
+
+-- the first entries are passed, among which are these solutions, and the budget falls by their nodes
+pub record Passes (q : Searching) (budget : ℕ) (new : Searching) (after : ℕ) (found : List (List Bool)) : Type 0 where
+  pub passed : List Step
+  pub joined : q.left ≡ passed ++ new.left
+  pub solutions : solutions_in q.system passed ≡ found
+  pub nodes : budget ≡ length (nodes_in passed) + after
+  pub system : new.system ≡ q.system
+  pub rules : new.rules ≡ q.rules
+
+-- up to the first solution
+pub record Finds (q : Searching) (budget : ℕ) (new : Searching) (after : ℕ) : Type 0 where
+  pub solution : List Bool
+  pub passes : Passes q budget new after (solution ∷ [])
+  pub chosen : new.chosen ≡ Some solution
+
+-- up to a node that the budget doesn't allow, with no solution before it
+pub record Stops (q : Searching) (budget : ℕ) (new : Searching) (after : ℕ) : Type 0 where
+  pub passes : Passes q budget new after []
+  pub spent : after ≡ 0
+  pub place : new.place ≡ Some new.path
+  pub more : 0 < length (nodes_in new.left)
+
+-- all of them, with no solution
+pub record Ends (q : Searching) (budget : ℕ) (new : Searching) (after : ℕ) : Type 0 where
+  pub passes : Passes q budget new after []
+  pub end : new.left ≡ []
+  pub path : new.path ≡ []
+
+-- what an answer of `next` says
+abbrev pub Turns : Searching → ℕ → Turn → Searching → ℕ → Type 0
+Turns q budget turn.Design new after = Finds q budget new after
+Turns q budget turn.Spent new after = Stops q budget new after
+Turns q budget turn.Finished new after = Ends q budget new after
+
+-- the number of calls of `advance` that give the same answers: one for each entry passed, and one for the own answer where that is no entry
+abbrev pub own_calls : Turn → ℕ
+own_calls turn.Design = 0
+own_calls turn.Spent = 1
+own_calls turn.Finished = 1
+
+abbrev pub calls_of : Searching → Turn → Searching → ℕ
+calls_of q t new = length q.left - length new.left + own_calls t
+
+-- where the next entry stands: at the path, below it, past it (a solution or not), or nowhere
+abbrev pub left_of : State → Rules → System → List Bool → List Step
+left_of Here rules s p = walk_on rules s p
+left_of Below rules s p = walk_on rules s (p ++ true ∷ [])
+left_of Past rules s p = later_walk rules s [] p
+left_of Solved rules s p = later_walk rules s [] p
+left_of Done rules s p = []
+
+abbrev pub place_of : State → List Bool → Option (List Bool)
+place_of Here p = Some p
+place_of Below p = None
+place_of Past p = None
+place_of Solved p = None
+place_of Done p = None
+
+abbrev pub chosen_of : State → System → List Bool → Option (List Bool)
+chosen_of Here s p = None
+chosen_of Below s p = None
+chosen_of Past s p = None
+chosen_of Solved s p = Some (yes_vector (length s.columns) (decided p))
+chosen_of Done s p = None
+
+-- the path at which the walk goes on
+abbrev pub next_path_of : State → List Bool → Option (List Bool)
+next_path_of Here p = Some p
+next_path_of Below p = Some (p ++ true ∷ [])
+next_path_of Past p = turned p
+next_path_of Solved p = turned p
+next_path_of Done p = None
+
+-- what contracts see of a search
+abbrev pub search_of : State → Rules → Held → Searching
+search_of state rules held = record { system = held.system; rules = rules; left = left_of state rules held.system held.path; path = held.path; place = place_of state held.path; chosen = chosen_of state held.system held.path }
+
+-- a node that the budget allows lowers it by 1, and is answered; else the search stays, spent
+abbrev pub Pays : ℕ → State → Event → State → Event → ℕ → Type 0
+Pays budget paid_state paid_event state event after = ((budget ≡ 0) × (after ≡ 0) × (state ≡ Here) × (event ≡ Spent)) ⊎ ((budget ≡ after + 1) × (state ≡ paid_state) × (event ≡ paid_event))
+
+-- what a verdict on a path of so many columns answers, and where the search is then
+abbrev pub Answers : Verdict → ℕ → ℕ → State → Event → ℕ → Type 0
+Answers (verdict.Over r) column budget state event after = (state ≡ Past) × (event ≡ Over r) × (after ≡ budget)
+Answers (verdict.Under r) column budget state event after = (state ≡ Past) × (event ≡ Under r) × (after ≡ budget)
+Answers (verdict.Residue r m) column budget state event after = (state ≡ Past) × (event ≡ Residue r m) × (after ≡ budget)
+Answers verdict.Settled column budget state event after = Pays budget Solved Solution state event after
+Answers verdict.Branch column budget state event after = Pays budget Below (Branch column) state event after
+
+-- a search goes on below a path that leaves a column, and at the end its path is empty
+abbrev pub IsReady : State → System → List Bool → Type 0
+IsReady Below s p = length p < length s.columns
+IsReady Here s p = Unit {0}
+IsReady Past s p = Unit {0}
+IsReady Solved s p = Unit {0}
+IsReady Done s p = p ≡ []
+
+-- it goes on below a path that branches
+abbrev pub IsFit : State → Rules → System → List Bool → Type 0
+IsFit Below rules s p = is_branch (entry_at rules s p) ≡ true
+IsFit Here rules s p = Unit {0}
+IsFit Past rules s p = Unit {0}
+IsFit Solved rules s p = Unit {0}
+IsFit Done rules s p = p ≡ []
+
+-- the walk comes by the path, and the search goes on from there
+pub record IsOnWalk (rules : Rules) (held : Held) (state : State) : Type 0 where
+  pub visited : IsVisited rules held.system held.path
+  pub fit : IsFit state rules held.system held.path

@@ -1,0 +1,258 @@
+ghost use Rattle.std.specs.Prelude.{◌≡◌, ℕ, ◌+◌, ◌-◌, ◌*◌, ◌<◌, ◌≤◌, [], ◌∷◌, ◌++◌, length, Some, None, IfOk, IfErr, IsSome, IsNone, IfSome, Bool, true, false, ◌==◌};
+ghost use Rattle.std.specs.List.{list_any};
+ghost use Rattle.df_walk.specs.Systems.{widest};
+ghost use Rattle.df_walk.specs.Walks.{walk, solutions_in, nodes_in};
+ghost use Rattle.df_walk.specs.Paths.{path_of, settled_before, rest, load};
+ghost use Rattle.df_walk.specs.Remains.{turned};
+ghost use Rattle.df_search.specs.HeldPaths.{TurnsTo};
+ghost use Rattle.df_search.specs.Resumptions.{Resumes, Refuses, IsFirstSettled, why_of};
+ghost use Rattle.df_search.specs.Searches.{begun, Advances, Turns, calls_of, next_path_of, IsReady, Answers};
+
+use crate::held_path::{HeldPath, Verdict};
+use crate::{Event, OutOfMemory, PathView, ResumeError, Turn, Why};
+use df_steps::Steps;
+use df_system::{Path, System};
+use df_walk::Rules;
+use std::alloc::Global;
+use std::marker::Model;
+use std::sync::ledger::Ledger;
+
+/// Where the next entry stands: at the path, below it, past it, or nowhere.
+#[derive(Clone, Copy)]
+enum State {
+    Here,
+    Below,
+    Past,
+    // past a path that was answered as a solution
+    Solved,
+    Done,
+}
+
+/// A search through the paths of a system. It holds one path, and takes no memory once it is made.
+///
+/// Contracts see the entries of the walk that remain, each with its path, and what the last answer was about: its path, the place where the walk goes on, and the solution.
+#[derive(Drop)]
+pub struct Search<'m> {
+    held: HeldPath<'m>,
+    rules: Rules,
+    state: State,
+}
+
+impl<'m> Model for Search<'m> {
+    ghost use Rattle.df_search.specs.Searches.{Searching, search_of, IsOnWalk};
+
+    ghost Value = { Searching };
+
+    ghost view = { λ s. search_of s.state s.rules s.held };
+
+    ghost invariant = { λ s. IsOnWalk s.rules s.held s.state };
+}
+
+/// Comes to the path at which the walk goes on. False, with the empty path, where it doesn't.
+fn go_on<L: Ledger>(state: State, held: &mut HeldPath<'_>, steps: &mut Steps<L>) -> bool
+    requires { IsReady state held.old.system held.old.path }
+    ensures comes { TurnsTo (next_path_of state held.old.path) result held.new.path }
+    ensures system { held.new.system ≡ held.old.system }
+    ensures cost { steps.new + widest held.old.system.columns * length held.new.path ≤ steps.old + widest held.old.system.columns * (length held.old.path + 3) }
+{
+    match state {
+        State::Here => true,
+        State::Below => {
+            held.extend(true, steps);
+            true
+        }
+        State::Past | State::Solved => held.turn(steps),
+        State::Done => false,
+    }
+}
+
+/// Lowers the budget by 1. False where it is 0.
+fn pay(budget: &mut u64) -> bool
+    ensures paid { result ≡ true → budget.old ≡ budget.new + 1 }
+    ensures spent { result ≡ false → (budget.old ≡ 0) × (budget.new ≡ 0) }
+{
+    if *budget == 0 {
+        return false;
+    }
+    *budget -= 1;
+    true
+}
+
+/// What a verdict on a path of so many columns answers, and where the search is then.
+fn answer(verdict: Verdict, length: u32, budget: &mut u64) -> (State, Event)
+    ensures { Answers verdict length budget.old result.0 result.1 budget.new }
+{
+    match verdict {
+        Verdict::Over(row) => (State::Past, Event::Over(row)),
+        Verdict::Under(row) => (State::Past, Event::Under(row)),
+        Verdict::Residue(row, divisor) => (State::Past, Event::Residue(row, divisor)),
+        Verdict::Settled => {
+            if pay(budget) {
+                (State::Solved, Event::Solution)
+            } else {
+                (State::Here, Event::Spent)
+            }
+        }
+        Verdict::Branch => {
+            if pay(budget) {
+                (State::Below, Event::Branch(length))
+            } else {
+                (State::Here, Event::Spent)
+            }
+        }
+    }
+}
+
+/// Why a path of this verdict isn't a node, if it isn't.
+fn why_not(verdict: Verdict) -> Option<Why>
+    ensures { result ≡ why_of verdict }
+{
+    match verdict {
+        Verdict::Over(row) => Some(Why::Over(row)),
+        Verdict::Under(row) => Some(Why::Under(row)),
+        Verdict::Residue(row, _) => Some(Why::Residue(row)),
+        Verdict::Settled | Verdict::Branch => None,
+    }
+}
+
+/// Whether a column is among the chosen ones.
+fn is_chosen(chosen: &[u32], column: u32) -> bool
+    ensures { result ≡ list_any (λ c. c == column) chosen.now }
+{
+    chosen.iter().any(|c| *c == column)
+}
+
+/// Decides the columns of a path, one after another. It stops before a proper prefix that is settled, and tells its length.
+fn follow<L: Ledger>(held: &mut HeldPath<'_>, path: &Path, steps: &mut Steps<L>) -> Option<u32>
+    requires empty { held.old.path ≡ [] }
+    requires fits { path.now.size ≤ length held.old.system.columns }
+    ensures whole { IsNone result → (held.new.path ≡ path_of path.now) × (settled_before held.old.system (path_of path.now) ≡ false) }
+    ensures settled { IfSome result (IsFirstSettled held.old.system (path_of path.now)) }
+    ensures system { held.new.system ≡ held.old.system }
+    ensures cost { steps.new ≤ steps.old + widest held.old.system.columns * path.now.size }
+{
+    let chosen = path.chosen();
+    for column in 0..path.length() {
+        if held.is_settled() {
+            return Some(column);
+        }
+        held.extend(is_chosen(chosen, column), steps);
+    }
+    None
+}
+
+impl<'m> Search<'m> {
+    /// A search at the empty path: the whole walk remains.
+    pub fn new<L: Ledger>(
+        alloc: Global,
+        system: &'m System,
+        rules: Rules,
+        steps: &mut Steps<L>,
+    ) -> Result<Search<'m>, OutOfMemory>
+        ensures value { IfOk result (λ s. s ≡ begun system.now rules [] (walk rules system.now [])) }
+        ensures cost { steps.new ≡ steps.old }
+    {
+        let held = HeldPath::new(alloc, system)?;
+        Ok(Search {
+            held,
+            rules,
+            state: State::Here,
+        })
+    }
+
+    /// A search at a node: the part of the walk that isn't before it remains.
+    ///
+    /// `PathRange` comes exactly where the path is longer than the columns, and `NotNode` exactly where it isn't a node, but where memory is wanted.
+    /// Of the reasons, a settled proper prefix is told first.
+    pub fn resume<L: Ledger>(
+        alloc: Global,
+        system: &'m System,
+        path: &Path,
+        rules: Rules,
+        steps: &mut Steps<L>,
+    ) -> Result<Search<'m>, ResumeError>
+        ensures ok { IfOk result (Resumes rules system.now (path_of path.now)) }
+        ensures refusal { IfErr result (Refuses rules system.now path.now) }
+        ensures cost { steps.new ≤ steps.old + widest system.now.columns * path.now.size }
+        ensures no_cost { length system.now.columns < path.now.size → steps.new ≡ steps.old }
+    {
+        let length = path.length();
+        let columns = system.columns();
+        if length > columns {
+            return Err(ResumeError::PathRange { length, columns });
+        }
+        let Ok(mut held) = HeldPath::new(alloc, system) else {
+            return Err(ResumeError::OutOfMemory);
+        };
+        if let Some(length) = follow(&mut held, path, steps) {
+            return Err(ResumeError::NotNode(Why::SettledBefore(length)));
+        }
+        if let Some(why) = why_not(held.judge(rules)) {
+            return Err(ResumeError::NotNode(why));
+        }
+        Ok(Search {
+            held,
+            rules,
+            state: State::Here,
+        })
+    }
+
+    /// Answers the first entry that remains. `Branch` and `Solution` lower the budget by 1, and the other entries leave it.
+    ///
+    /// `Spent` comes exactly where that entry's path is a node and the budget is 0. The search then stays, and a later call with a budget goes on.
+    /// `Finished` comes exactly where no entry remains.
+    pub fn advance<L: Ledger>(&mut self, budget: &mut u64, steps: &mut Steps<L>) -> Event
+        ensures entry { Advances self.old budget.old result self.new budget.new }
+        ensures cost { steps.new + widest self.old.system.columns * length self.new.path ≤ steps.old + widest self.old.system.columns * (length self.old.path + 3) }
+    {
+        if !go_on(self.state, &mut self.held, steps) {
+            self.state = State::Done;
+            return Event::Finished;
+        }
+        let verdict = self.held.judge(self.rules);
+        let (state, event) = answer(verdict, self.held.length(), budget);
+        self.state = state;
+        event
+    }
+
+    /// Goes on to the next solution, if the budget allows it, and lowers the budget by the nodes that it passes.
+    ///
+    /// `Design` comes exactly where a solution is among the first nodes that remain, as many as the budget; what remained is `chosen` and then what remains now.
+    /// `Spent` comes exactly where there is none and more nodes remain, and `Finished` exactly otherwise.
+    pub fn next<L: Ledger>(&mut self, budget: &mut u64, steps: &mut Steps<L>) -> Turn
+        ensures turn { Turns self.old budget.old result self.new budget.new }
+        ensures cost { steps.new + widest self.old.system.columns * length self.new.path ≤ steps.old + widest self.old.system.columns * (3 * calls_of self.old result self.new + length self.old.path) }
+    {
+        loop {
+            match self.advance(budget, steps) {
+                Event::Solution => return Turn::Design,
+                Event::Spent => return Turn::Spent,
+                Event::Finished => return Turn::Finished,
+                _ => {}
+            }
+        }
+    }
+
+    /// The values of the solution that was answered last, one for each column.
+    pub fn chosen(&self) -> &[bool]
+        requires { IsSome self.now.chosen }
+        ensures value { self.now.chosen ≡ Some result.now }
+        ensures long { length result.now ≡ length self.now.system.columns }
+    {
+        self.held.values()
+    }
+
+    /// The path at which the walk goes on: what remains has its rest and its load.
+    pub fn place(&self) -> PathView<'_>
+        requires { IsSome self.now.place }
+        ensures path { self.now.place ≡ Some result.decisions.now }
+        ensures long { result.length ≡ length result.decisions.now }
+        ensures rest { solutions_in self.now.system self.now.left ≡ rest self.now.system result.decisions.now }
+        ensures load { length (nodes_in self.now.left) ≡ load self.now.rules self.now.system result.decisions.now }
+    {
+        PathView {
+            length: self.held.length(),
+            decisions: self.held.path(),
+        }
+    }
+}
