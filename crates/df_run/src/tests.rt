@@ -34,7 +34,11 @@ fn run_over(
 }
 
 // Runs one command over inputs, each with the exit status and the text that it is to give.
-fn answer_all(rt: &(impl Abort + AllocGlobal), command: &str, rows: &[(&str, u8, &str)]) -> Result<(), Fail> {
+fn answer_all(
+    rt: &(impl Abort + AllocGlobal),
+    command: &str,
+    rows: &[(&str, u8, &str)],
+) -> Result<(), Fail> {
     for (input, code, wanted) in rows {
         let (status, _, sink) = run_over(rt.alloc(), &[command], input.as_bytes(), 16, 0, 4096)?;
         assert_eq!(rt; status.code(), *code, "at {input}");
