@@ -5,6 +5,8 @@
 
 mod marks;
 mod orbits;
+#[cfg(test)]
+mod tests;
 
 pub use orbits::{pair_orbits, sized_orbits, subset_orbits, OrbitError, Orbits};
 
