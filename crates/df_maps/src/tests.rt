@@ -4,7 +4,7 @@ ghost use Rattle.df_maps.specs.FullMaps.{point_count};
 
 use super::Maps;
 use df_group::{Elem, Shape, Subgroup};
-use df_subsets::{binomial, unrank, Block, Point};
+use df_subsets::{Block, Point, binomial, unrank};
 use std::process::Abort;
 
 // All the maps with one multiplier, if it is one and there aren't too many points.

@@ -154,6 +154,6 @@ half_below E x middle s h less i l =
 pub half_above : (E : List (List ℕ)) (x : List ℕ) (middle : ℕ) → IsSorted before E → before (get_or E middle []) x ≡ false → (i : ℕ) → middle ≤ i → i < length E → before (get_or E i []) x ≡ false
 half_above E x middle s more i l h =
     false_from_ne_true (before (get_or E i []) x) (λ k. ⊎_elim
-        (λ m. both_ways (before (get_or E middle []) x) more (lists_ordered.onward (get_or E middle []) (get_or E i []) x (sorted_at before E middle i [] s m h) k))
-        (λ m. let e : i ≡ middle = omega (arith, m, l) in both_ways (before (get_or E middle []) x) more (subst (λ j. before (get_or E j []) x ≡ true) e k))
-        (cases_lt middle i))
+    (λ m. both_ways (before (get_or E middle []) x) more (lists_ordered.onward (get_or E middle []) (get_or E i []) x (sorted_at before E middle i [] s m h) k))
+    (λ m. let e : i ≡ middle = omega (arith, m, l) in both_ways (before (get_or E middle []) x) more (subst (λ j. before (get_or E j []) x ≡ true) e k))
+    (cases_lt middle i))

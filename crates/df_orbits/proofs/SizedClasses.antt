@@ -143,9 +143,11 @@ module _ (M : MapGroup) (A : AreGroup M) (sizes : List ℕ) where
       let e = In-filter_gives (is_earliest before (image M) (full_maps M)) (candidates (point_count M) sizes) b i in
       let s = candidates_inside (point_count M) sizes b e.0 in
       let k = any_gives (λ j. eqb j (length b)) sizes s.1 in
-      let long = eqb-true k.0 (length b) k.2 in
-      (class_size M (subsets (point_count M) k.0) b, In-flat_map of_size sizes k.0 (b, class_size M (subsets (point_count M) k.0) b) k.1 (In-map (λ b. (b, class_size M (subsets (point_count M) k.0) b)) (earliest_of M (subsets (point_count M) k.0)) b
-      (In-filter (is_earliest before (image M) (full_maps M)) (subsets (point_count M) k.0) b (subsets_have (point_count M) k.0 b s.0 (sym long)) e.1)))
+      let long = eqb-true k.0 (length b) k.2 in (
+        class_size M (subsets (point_count M) k.0) b,
+        In-flat_map of_size sizes k.0 (b, class_size M (subsets (point_count M) k.0) b) k.1 (In-map (λ b. (b, class_size M (subsets (point_count M) k.0) b)) (earliest_of M (subsets (point_count M) k.0)) b
+            (In-filter (is_earliest before (image M) (full_maps M)) (subsets (point_count M) k.0) b (subsets_have (point_count M) k.0 b s.0 (sym long)) e.1)),
+      )
 
   -- no block is listed twice
   abbrev is_of : List ℕ → List ℕ × ℕ → Bool

@@ -8,7 +8,7 @@ mod orbits;
 #[cfg(test)]
 mod tests;
 
-pub use orbits::{pair_orbits, sized_orbits, subset_orbits, OrbitError, Orbits};
+pub use orbits::{OrbitError, Orbits, pair_orbits, sized_orbits, subset_orbits};
 
 /// Want of memory.
 pub type OutOfMemory = std::alloc::AllocError;

@@ -10,10 +10,10 @@ ghost use Rattle.df_orbits.specs.MarkedPlaces.{is_marked};
 ghost use Rattle.df_orbits.specs.OrbitClasses.{are_alike, class_size, classes_of, pair_classes, block_classes, first_members, class_sizes, earliest_alike};
 ghost use Rattle.df_orbits.specs.declared.orbits.OrbitError.TheVariants.{TooManySubsets, TooManySummed, OutOfMemory as OutOfMemoryError};
 
-use crate::marks::Marks;
 use crate::OutOfMemory;
+use crate::marks::Marks;
 use df_maps::Maps;
-use df_subsets::{binomial, rank, unrank, Block};
+use df_subsets::{Block, binomial, rank, unrank};
 use std::alloc::{AllocError, Global};
 use std::marker::Model;
 
@@ -171,7 +171,13 @@ fn summed(points: u8, sizes: &[u8]) -> u128
 }
 
 // Appends the classes of the blocks of one size, of points below `points`.
-fn find(alloc: Global, maps: &Maps, points: u8, size: u8, found: &mut Vec<Orbit>) -> Result<(), OutOfMemory>
+fn find(
+    alloc: Global,
+    maps: &Maps,
+    points: u8,
+    size: u8,
+    found: &mut Vec<Orbit>,
+) -> Result<(), OutOfMemory>
     requires maps { AreGroup maps.now }
     requires points { points ≡ point_count maps.now }
     requires small { points ≤ 128 }

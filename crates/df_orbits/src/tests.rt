@@ -1,6 +1,6 @@
 // What no clause says: that each call succeeds, and values worked out by hand.
 
-use super::{pair_orbits, sized_orbits, subset_orbits, OrbitError};
+use super::{OrbitError, pair_orbits, sized_orbits, subset_orbits};
 use df_group::{Elem, Shape, Subgroup};
 use df_maps::Maps;
 use df_subsets::{Block, Point};
@@ -72,7 +72,12 @@ fn refuses_too_many_blocks(rt: HostRuntime) {
     assert!(rt; maps.points() == 30);
     match subset_orbits(rt.alloc(), &maps, 8) {
         Ok(_) => assert!(rt; false),
-        Err(e) => assert!(rt; e == OrbitError::TooManySubsets { points: 30, size: 8 }),
+        Err(e) => assert!(rt;
+            e == OrbitError::TooManySubsets {
+                points: 30,
+                size: 8
+            }
+        ),
     }
 }
 

@@ -8,7 +8,7 @@ pub loop-m-preserved : goal.loop-m-preserved
 loop-m-preserved c = λ j.
     let made = λ (m : _). (m * c.args.residue) % c.args.exponent in
     let place : made (get_or c.args.mults.now c.loop-m.m-index 0) ≡ (c.from.result * c.from-in-loop-m.result) % c.from-in-loop-m-2.result =
-        sym (ap₂ (λ a b. (c.from.result * a) % b) c.from-in-loop-m.ensures c.from-in-loop-m-2.ensures ∙ ap (λ a. (a * c.args.residue) % c.args.exponent) c.from.ensures) in
+    sym (ap₂ (λ a b. (c.from.result * a) % b) c.from-in-loop-m.ensures c.from-in-loop-m-2.ensures ∙ ap (λ a. (a * c.args.residue) % c.args.exponent) c.from.ensures) in
     let low = mod-lt (get_or c.args.mults.now c.loop-m.m-index 0 * c.args.residue) c.requires.some in
     ap (λ k. get_or (set c.loop-m.reached k true) j false) (sym place)
     ∙ mark_more c.args.reached.now c.loop-m.reached made c.args.mults.now c.loop-m.m-index j (omega arith) (omega (arith, low)) (c.loop-m.invariant j)

@@ -15,7 +15,7 @@ loop-pass-init c =
     let long = c.requires.long in
     let marks = λ (j : ℕ). set_mark c.args.reached.now (1 % e) j (omega (arith, low, long)) in
     let all : (r : ℕ) → In (products_within e c.args.mults.now 0) r → get_or (set c.args.reached.now (1 % e) true) r false ≡ true =
-        λ r i. marks r ∙ or_right (get_or c.args.reached.now r false) (eqb (1 % e) r) (eq-eqb (1 % e) r (products_first e c.args.mults.now c.requires.some r i)) in
+    λ r i. marks r ∙ or_right (get_or c.args.reached.now r false) (eqb (1 % e) r) (eq-eqb (1 % e) r (products_first e c.args.mults.now c.requires.some r i)) in
     record {
       all = λ r i. ap (λ k. get_or (set c.args.reached.now k true) r false) c.from.ensures ∙ all r i;
       only = λ r h.

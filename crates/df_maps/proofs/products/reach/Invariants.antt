@@ -7,5 +7,5 @@ use Rattle.df_maps.proofs.products.reach.Given as goal
 abbrev pub invariant-loop-pass : goal.invariant-loop-pass
 invariant-loop-pass l = record {
   all : (r : ℕ) → In (products_within l.exponent l.mults l.pass) r → slice_index_or l.reached r false ≡ true;
-  only : (r : ℕ) → slice_index_or l.reached r false ≡ true → In (products l.exponent l.mults) r
+  only : (r : ℕ) → slice_index_or l.reached r false ≡ true → In (products l.exponent l.mults) r;
 }

@@ -15,5 +15,5 @@ invariant-loop-place l = record {
   marks : (j : ℕ) → j < binomial_of (point_count l.maps) l.size → is_marked l.marks j
       ≡ list_any (λ d. are_alike l.maps d (slice_index_or (subsets (point_count l.maps) l.size) j [])) (take l.place (subsets (point_count l.maps) l.size));
   found : map {B = List ℕ × ℕ} (λ f. (f.block, f.size)) l.found.items
-      ≡ map {B = List ℕ × ℕ} (λ f. (f.block, f.size)) l.fn.found.items ++ map {B = List ℕ × ℕ} (λ b. (b, class_size l.maps (subsets (point_count l.maps) l.size) b)) (filter (is_earliest before (image l.maps) (full_maps l.maps)) (take l.place (subsets (point_count l.maps) l.size)))
+      ≡ map {B = List ℕ × ℕ} (λ f. (f.block, f.size)) l.fn.found.items ++ map {B = List ℕ × ℕ} (λ b. (b, class_size l.maps (subsets (point_count l.maps) l.size) b)) (filter (is_earliest before (image l.maps) (full_maps l.maps)) (take l.place (subsets (point_count l.maps) l.size)));
 }

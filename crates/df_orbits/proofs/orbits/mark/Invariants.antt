@@ -10,5 +10,5 @@ abbrev pub invariant-loop-i : goal.invariant-loop-i
 invariant-loop-i l = record {
   room : length l.marks ≡ length l.fn.marks;
   marks : (place : ℕ) → place < binomial_of (point_count l.maps) (length l.block) → is_marked l.marks place
-      ≡ (is_marked l.fn.marks place || list_any (λ j. same_list (image l.maps (map_number l.maps j) l.block) (slice_index_or (subsets (point_count l.maps) (length l.block)) place [])) (range_with_len 0 l.i))
+      ≡ (is_marked l.fn.marks place || list_any (λ j. same_list (image l.maps (map_number l.maps j) l.block) (slice_index_or (subsets (point_count l.maps) (length l.block)) place [])) (range_with_len 0 l.i));
 }

@@ -8,5 +8,5 @@ use Rattle.df_maps.proofs.maps.Maps.image_block.Given as goal
 abbrev pub invariant-loop-p : goal.invariant-loop-p
 invariant-loop-p l = record {
   block : IsBlock (point_count l.self) l.image;
-  has : (q : ℕ) → has_member l.image q ≡ list_any (λ p. eqb (carried l.self (l.m, l.h) p) q) (take l.p-index l.p-items)
+  has : (q : ℕ) → has_member l.image q ≡ list_any (λ p. eqb (carried l.self (l.m, l.h) p) q) (take l.p-index l.p-items);
 }

@@ -24,15 +24,15 @@ loop-i-preserved c =
     let test = sym (c.lt.ensures ∙ sym (before_is c.image_block-image.result c.loop-i.least)) in
     elim c.if-lt.branch [
       | then-lt w ↦ record {
-            image = step M b c.loop-i.least c.if-lt.least c.image_block-image.result c.loop-i.i true c.loop-i.invariant.image c.image_block-image.ensures.image (test ∙ w.if-lt.true) w.least-is;
-            block = subst (IsBlock (point_count M)) (sym w.least-is) c.image_block-image.ensures.block;
-            size = ap length w.least-is ∙ c.image_block-image.ensures.size;
-          }
+        image = step M b c.loop-i.least c.if-lt.least c.image_block-image.result c.loop-i.i true c.loop-i.invariant.image c.image_block-image.ensures.image (test ∙ w.if-lt.true) w.least-is;
+        block = subst (IsBlock (point_count M)) (sym w.least-is) c.image_block-image.ensures.block;
+        size = ap length w.least-is ∙ c.image_block-image.ensures.size;
+      }
       | else-lt w ↦ record {
-            image = step M b c.loop-i.least c.if-lt.least c.image_block-image.result c.loop-i.i false c.loop-i.invariant.image c.image_block-image.ensures.image (test ∙ w.if-lt.false) w.least-is;
-            block = subst (IsBlock (point_count M)) (sym w.least-is) c.loop-i.invariant.block;
-            size = ap length w.least-is ∙ c.loop-i.invariant.size;
-          }
+        image = step M b c.loop-i.least c.if-lt.least c.image_block-image.result c.loop-i.i false c.loop-i.invariant.image c.image_block-image.ensures.image (test ∙ w.if-lt.false) w.least-is;
+        block = subst (IsBlock (point_count M)) (sym w.least-is) c.loop-i.invariant.block;
+        size = ap length w.least-is ∙ c.loop-i.invariant.size;
+      }
     ]
 
 pub returns-clause-image : goal.returns-clause-image

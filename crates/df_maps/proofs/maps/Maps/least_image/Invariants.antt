@@ -9,5 +9,5 @@ abbrev pub invariant-loop-i : goal.invariant-loop-i
 invariant-loop-i l = record {
   image : l.least ≡ earliest before l.block (map (λ j. image l.self (map_number l.self j) l.block) (range_with_len 0 l.i));
   block : IsBlock (point_count l.self) l.least;
-  size : length l.least ≡ length l.block
+  size : length l.least ≡ length l.block;
 }

@@ -18,5 +18,5 @@ returns c =
 pub invariant_of-result : goal.invariant_of-result
 invariant_of-result c =
     let same = made_same c.copied.result c.args.shape.now c.residues_of_products.result.items (products (exponent_of c.args.shape.now) c.args.mults.now) c.members_of.result.items c.args.shift.now c.args.fixed
-        c.copied.ensures (c.residues_of_products.ensures ∙ ap (λ e. products e c.args.mults.now) c.exponent.ensures.exponent) (c.members_of.ensures ∙ sym (subgroup_has c.args.shape.now c.exponent.ensures.shape c.args.shift.now c.requires.shift).set) in
+    c.copied.ensures (c.residues_of_products.ensures ∙ ap (λ e. products e c.args.mults.now) c.exponent.ensures.exponent) (c.members_of.ensures ∙ sym (subgroup_has c.args.shape.now c.exponent.ensures.shape c.args.shift.now c.requires.shift).set) in
     subst IsMaps (sym same) (made c.args.shape.now c.args.fixed c.args.shift.now c.args.mults.now c.exponent.ensures.shape c.requires.small c.requires.shift (all_members (λ m. is_unit (exponent_of c.args.shape.now) m ≡ true) c.args.mults.now c.requires.units))

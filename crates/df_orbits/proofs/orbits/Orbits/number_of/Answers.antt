@@ -60,7 +60,7 @@ returns c =
     let stop : c.loop-low.high ≤ c.loop-low.low = c.loop-low-test.false in
     let least = c.least_image-least.ensures.image in
     let ends = search_ends M c.least_image-least.ensures.maps c.requires.making.0 c.args.block.now (block_is_set (point_count M) c.args.block.now c.requires.block) c.requires.making.2 now c.requires.making.1 c.loop-low.low
-        (omega (arith, long, c.loop-low.invariant.order, c.loop-low.invariant.end))
-        (λ i h. ap (before (get_or (first_members now) i [])) (sym least) ∙ c.loop-low.invariant.below i h)
-        (λ i h k. ap (before (get_or (first_members now) i [])) (sym least) ∙ c.loop-low.invariant.above i (omega (arith, h, stop)) (omega (arith, k, long))) in
+    (omega (arith, long, c.loop-low.invariant.order, c.loop-low.invariant.end))
+    (λ i h. ap (before (get_or (first_members now) i [])) (sym least) ∙ c.loop-low.invariant.below i h)
+    (λ i h k. ap (before (get_or (first_members now) i [])) (sym least) ∙ c.loop-low.invariant.above i (omega (arith, h, stop)) (omega (arith, k, long))) in
     record { within = omega (arith, ends.0, long); earliest = ends.1; class = ends.2 }

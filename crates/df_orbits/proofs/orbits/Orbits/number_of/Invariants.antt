@@ -9,7 +9,7 @@ invariant-loop-low l = record {
   order : l.low ≤ l.high;
   end : l.high ≤ length l.self;
   below : (i : ℕ) → i < l.low → before (get_or (first_members l.self) i []) l.least ≡ true;
-  above : (i : ℕ) → l.high ≤ i → i < length l.self → before (get_or (first_members l.self) i []) l.least ≡ false
+  above : (i : ℕ) → l.high ≤ i → i < length l.self → before (get_or (first_members l.self) i []) l.least ≡ false;
 }
 
 abbrev pub decreases-loop-low : goal.decreases-loop-low
