@@ -175,11 +175,8 @@ impl Maps {
         if p.0 >= self.shape.order() {
             return p;
         }
-        Point(
-            self.shape
-                .add(self.shape.times(u32::from(m), Elem(p.0)), h)
-                .0,
-        )
+        let multiple = self.shape.times(u32::from(m), Elem(p.0));
+        Point(self.shape.add(multiple, h).0)
     }
 }
 

@@ -5,6 +5,8 @@
 
 mod marks;
 mod orbits;
+#[cfg(test)]
+mod tests;
 
 pub use orbits::{OrbitError, Orbits, pair_orbits, sized_orbits, subset_orbits};
 
