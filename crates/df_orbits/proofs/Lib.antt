@@ -6,3 +6,4 @@ pub mod PairCounts
 pub mod PlaceTests
 pub mod SizeSums
 pub mod SizedClasses
+pub mod SortedLists

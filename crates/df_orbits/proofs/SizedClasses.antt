@@ -16,7 +16,7 @@ use Rattle.df_subsets.specs.Blocks.{IsBlock, before}
 use Rattle.df_lists.specs.Orders.{IsSorted}
 use Rattle.df_subsets.specs.Subsets.{points, subsets, candidates, nonempty, same_list, binomial}
 use Rattle.df_subsets.proofs.BlockLaws.{block_is_set}
-use Rattle.df_subsets.proofs.BlockOrders.{lists_ordered, sorted_same}
+use Rattle.df_subsets.proofs.BlockOrders.{lists_ordered}
 use Rattle.df_subsets.proofs.SubsetLists.{same_list-gives, same_list-self, subsets_inside, subsets_once, subsets_have, subsets_long}
 use Rattle.df_subsets.proofs.SizedLists.{candidates_inside, candidates_have}
 use Rattle.df_acting.specs.Earliest.{is_earliest}
@@ -24,6 +24,7 @@ use Rattle.df_lists.proofs.TestLaws.{same_tests, any_from, any_gives, filter_agr
 use Rattle.df_acting.proofs.ClassLaws.{class_gives}
 use Rattle.df_acting.proofs.ImageLaws.{length-image}
 use Rattle.df_acting.proofs.SpreadLaws.{lists_equal}
+use Rattle.df_orbits.proofs.SortedLists.{sorted_same}
 use Rattle.df_maps.specs.FullMaps.{MapGroup, full_maps, image, point_count, carried}
 use Rattle.df_maps.specs.Laws.{AreGroup}
 use Rattle.df_maps.proofs.LoopSteps.{map-map}

@@ -27,7 +27,7 @@ fn run_over(
     let bytes = Vec::from_slice(alloc, input)?;
     let mut fails = ArrayVec::new();
     fails.push(failing);
-    let mut source = MemSource::new(bytes, piece, fails);
+    let mut source = MemSource::new(bytes, piece.max(1), fails);
     let mut sink = MemSink::new(alloc, room, ArrayVec::new())?;
     let status = run(alloc, owned.as_slice(), &mut source, &mut sink);
     Ok((status, source, sink))
