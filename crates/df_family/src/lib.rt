@@ -8,6 +8,8 @@ mod laws;
 mod problem_parts;
 mod table;
 mod tally;
+#[cfg(test)]
+mod tests;
 mod translate;
 mod verdict;
 
