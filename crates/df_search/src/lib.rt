@@ -5,6 +5,8 @@
 
 mod held_path;
 pub mod search;
+#[cfg(test)]
+mod tests;
 
 pub use df_walk::Rules;
 pub use search::Search;
