@@ -24,6 +24,7 @@ pub struct Tally {
 }
 
 impl Tally {
+    /// A tally of nothing: each number is 0.
     pub fn new() -> Tally
         ensures { (row : Row) → number_at result row ≡ 0 }
     {
