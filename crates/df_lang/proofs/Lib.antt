@@ -12,6 +12,7 @@ pub mod LinesRead
 pub mod LinesShort
 pub mod NamePlaces
 pub mod NamesBack
+pub mod NamesCopied
 pub mod NumbersBack
 pub mod PointsBack
 pub mod PointsKept

@@ -1,5 +1,5 @@
 -- Where a name stands in the table of names.
-use Rattle.std.proofs.Common.{◌≡◌, ◌==◌, ℕ, ◌+◌, ◌<◌, ◌≤◌, Bool, true, false, cond, not, ◌&&◌, ltb, suc, List, [], ◌∷◌, ◌++◌, map, length, All, Option, Some, None, position, refl, sym, ap, ◌∙◌, arith, tests, bytes_eq, if◌then◌else◌, nat_lt, ◌^◌, ◌-◌, ◌⊎◌, inl, inr, subst, zero, get_or, slice_get, Result, Ok, Err, OnOk, OnErr}
+use Rattle.std.proofs.Common.{◌≡◌, ◌==◌, ℕ, ◌+◌, ◌<◌, ◌≤◌, Bool, true, false, cond, not, ◌&&◌, ltb, suc, List, [], ◌∷◌, ◌++◌, map, length, All, Some, None, position, refl, sym, ap, ◌∙◌, arith, tests, bytes_eq, if◌then◌else◌, nat_lt, ◌^◌, ◌-◌, ◌⊎◌, inl, inr, subst, zero, get_or, slice_get, Result, Ok, Err, OnOk, OnErr}
 use Rattle.std.proofs.lemmas.List.{length_push}
 use Rattle.std.proofs.lemmas.List.Elements.{All-push}
 use Rattle.std.proofs.Math.Bool.{and-false}

@@ -33,7 +33,7 @@ past_all token (n ∷ ns) differ =
     let ih = past_all token ns differ.1 in
     rw (other, ih) (omega arith)
 
-no_place : (token : List ℕ) (names : List Named) → Each (λ (n : Named). n.0 ≡ token → ⊥) names → place_of names token ≡ None
+pub no_place : (token : List ℕ) (names : List Named) → Each (λ (n : Named). n.0 ≡ token → ⊥) names → place_of names token ≡ None
 no_place token names differ =
     let end = past_all token names differ in
     let past : ltb (position_or_len (λ (n : Named). bytes_eq token n.0) names) (length names) ≡ false = grind (arith, tests, end) in

@@ -7,6 +7,7 @@
 mod block_lines;
 mod blocks;
 mod canonical;
+mod copies;
 mod draft;
 mod early;
 mod elements;
@@ -44,3 +45,6 @@ pub use round_trip::{canonical_lines_are_read_back, problem_is_read_back};
 pub use sources::parse;
 pub use targets::target;
 pub use texts::{block_text_is_short, point_text_is_short, put_block, put_point};
+
+/// Want of memory.
+pub type OutOfMemory = std::alloc::AllocError;

@@ -5,18 +5,26 @@ use df_subsets::{Block, Point};
 use std::alloc::Global;
 use std::test::Fail;
 
-// Whether these are the canonical lines of a source.
+// Whether these are the canonical lines of a source, and of a copy of what it states.
 fn prints(alloc: Global, source: &[u8], lines: &[&str]) -> bool {
     let Ok(problem) = parse(alloc, source) else {
         return false;
     };
+    let Ok(copy) = problem.copied(alloc) else {
+        return false;
+    };
+    has_lines(&problem, lines) && has_lines(&copy, lines)
+}
+
+// Whether these are the canonical lines of a problem.
+fn has_lines(problem: &Problem, lines: &[&str]) -> bool {
     let mut buf = LineBuf::new();
     for (number, line) in lines.iter().enumerate() {
-        if !print(&problem, &mut buf, number) || buf.as_slice() != line.as_bytes() {
+        if !print(problem, &mut buf, number) || buf.as_slice() != line.as_bytes() {
             return false;
         }
     }
-    line_count(&problem) == lines.len() && !print(&problem, &mut buf, lines.len()) && buf.is_empty()
+    line_count(problem) == lines.len() && !print(problem, &mut buf, lines.len()) && buf.is_empty()
 }
 
 #[test]

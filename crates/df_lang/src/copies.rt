@@ -1,0 +1,96 @@
+// Copies of a problem.
+ghost use Rattle.std.specs.Prelude.{◌≡◌, ◌≤◌, ◌<◌, ◌+◌, ℕ, length, map, take, All, IfOk, OnOk};
+ghost use Rattle.std.specs.List.{AllPairs};
+ghost use Rattle.df_lang.specs.Problems.{Named, DifferInName};
+ghost use Rattle.df_lang.specs.Stored.{named};
+
+use crate::OutOfMemory;
+use crate::names::name;
+use crate::parts::Name;
+use crate::problem::Problem;
+use arrayvec::ArrayVec;
+use df_group::Subgroup;
+use indexmap::IndexMap;
+use std::alloc::{AllocError, Global};
+
+impl Problem {
+    /// The same problem once more. The error comes where memory is wanted and not there.
+    pub fn copied(&self, alloc: Global) -> Result<Problem, OutOfMemory>
+        ensures { IfOk result (λ copy. copy ≡ self.now) }
+    {
+        Ok(Problem {
+            version: self.version,
+            shape: self.shape.copied(),
+            fixed: self.fixed,
+            names: copied_names(alloc, &self.names)?,
+            shift: self.shift,
+            mults: copied_numbers(self.mults.as_slice()),
+            sizes: copied_sizes(self.sizes.as_slice()),
+            lambda: self.lambda,
+            inside: self.inside,
+            hole: self.hole,
+            family: Vec::from_slice(alloc, &self.family)?,
+            required: Vec::from_slice(alloc, &self.required)?,
+            forbidden: Vec::from_slice(alloc, &self.forbidden)?,
+        })
+    }
+}
+
+fn copied_numbers(mults: &[u16]) -> ArrayVec<u16, 128>
+    requires { length mults.now ≤ 128 }
+    ensures { result.items ≡ mults.now }
+{
+    let mut copy = ArrayVec::new();
+    match copy.try_extend_from_slice(mults) {
+        Ok(()) => copy,
+        Err(_) => unreachable!(),
+    }
+}
+
+fn copied_sizes(sizes: &[u8]) -> ArrayVec<u8, 15>
+    requires { length sizes.now ≤ 15 }
+    ensures { result.items ≡ sizes.now }
+{
+    let mut copy = ArrayVec::new();
+    match copy.try_extend_from_slice(sizes) {
+        Ok(()) => copy,
+        Err(_) => unreachable!(),
+    }
+}
+
+// The table of names, no two of which are alike, once more.
+fn copied_names(
+    alloc: Global,
+    names: &IndexMap<Name, Subgroup>,
+) -> Result<IndexMap<Name, Subgroup>, OutOfMemory>
+    requires apart { AllPairs DifferInName (map named names.now.entries) }
+    requires short { All (λ (n : Named). length n.0 ≤ 16) (map named names.now.entries) }
+    ensures { IfOk result (λ copy. map named copy.entries ≡ map named names.now.entries) }
+{
+    let mut copy = IndexMap::new(alloc);
+    for place in 0..names.len() {
+        copy_entry(&mut copy, names, place)?;
+    }
+    Ok(copy)
+}
+
+// Puts the entry of this place into a table of those before it.
+fn copy_entry(
+    copy: &mut IndexMap<Name, Subgroup>,
+    names: &IndexMap<Name, Subgroup>,
+    place: usize,
+) -> Result<(), OutOfMemory>
+    requires place { place < length names.now.entries }
+    requires first { map named copy.old.entries ≡ take place (map named names.now.entries) }
+    requires apart { AllPairs DifferInName (map named names.now.entries) }
+    requires short { All (λ (n : Named). length n.0 ≤ 16) (map named names.now.entries) }
+    ensures { OnOk result (map named copy.new.entries ≡ take (place + 1) (map named names.now.entries)) }
+{
+    let Some((key, subgroup)) = names.get_index(place) else {
+        unreachable!()
+    };
+    match copy.insert(name(key.as_slice()), *subgroup) {
+        Ok(_) => Ok(()),
+        Err(_) => Err(AllocError),
+    }
+}
