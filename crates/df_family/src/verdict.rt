@@ -1,12 +1,12 @@
 // The verdict on a family.
-ghost use Rattle.std.specs.Prelude.{◌≡◌, ◌↔◌, ◌≤◌, true, length, IfOk};
+ghost use Rattle.std.specs.Prelude.{◌≡◌, ◌↔◌, ◌≤◌, true, length, position, IfOk};
 ghost use Rattle.df_group.specs.Elements.{order_of};
 ghost use Rattle.df_lang.specs.Problems.{IsStated, point_count};
 ghost use Rattle.df_lang.specs.Balance.{IsBalanced};
 ghost use Rattle.df_lists.specs.NumberSets.{IsSet};
 ghost use Rattle.df_family.specs.Developments.{develop, translates};
-ghost use Rattle.df_family.specs.Tables.{IsAsStated, table as table_of};
-ghost use Rattle.df_family.specs.Verdicts.{verdict_on, is_accepted, IsVerdictOn};
+ghost use Rattle.df_family.specs.Tables.{IsAsStated, is_wrong, table as table_of};
+ghost use Rattle.df_family.specs.Verdicts.{verdict_on, is_accepted, IsVerdictOn, TellsBalance};
 
 use crate::OutOfMemory;
 use crate::problem_parts::order;
@@ -27,10 +27,10 @@ pub enum Verdict {
 /// The verdict on the problem's family: accepted exactly where its development is balanced, which is where each row of the difference table is found as often as is stated.
 /// The error comes where memory is wanted and not there.
 pub fn verify(alloc: Global, problem: &Problem) -> Result<Verdict, OutOfMemory>
+    ensures balance { IfOk result (λ v. (is_accepted v ≡ true) ↔ IsBalanced problem.now (develop problem.now)) }
+    ensures rows { IfOk result (λ v. (is_accepted v ≡ true) ↔ IsAsStated problem.now) }
     ensures verdict { IfOk result (λ v. v ≡ verdict_on problem.now) }
     ensures row { IfOk result (IsVerdictOn problem.now) }
-    ensures rows { IfOk result (λ v. (is_accepted v ≡ true) ↔ IsAsStated problem.now) }
-    ensures balance { IfOk result (λ v. (is_accepted v ≡ true) ↔ IsBalanced problem.now (develop problem.now)) }
 {
     let table = difference_table(alloc, problem)?;
     Ok(verdict_by(problem, &table))
@@ -43,7 +43,7 @@ fn verdict_by(problem: &Problem, table: &Table) -> Verdict
     ensures rules { IsStated problem.now }
 {
     let blocks = block_count(problem);
-    match table.first_wrong() {
+    match first_fault(problem, table) {
         None => Verdict::Accepted { blocks },
         Some(place) => Verdict::Refused {
             row: table.row(place),
@@ -51,6 +51,17 @@ fn verdict_by(problem: &Problem, table: &Table) -> Verdict
             stated: table.stated(place),
         },
     }
+}
+
+// The first place of the problem's table whose numbers differ. There is none exactly where the development is balanced.
+#[tactic(auto, using(crate::proofs::VerdictLaws::none_differs))]
+fn first_fault(problem: &Problem, table: &Table) -> Option<usize>
+    requires rules { IsStated problem.now }
+    requires table { table.now ≡ table_of problem.now }
+    ensures balance { TellsBalance problem.now result }
+    ensures first { result ≡ position is_wrong table.now }
+{
+    table.first_wrong()
 }
 
 // How many blocks the development has.

@@ -9,14 +9,14 @@ use Rattle.df_family.proofs.verdict.verdict_by.Goals as goal
 pub returns-in-None-clause-verdict : goal.returns-in-None-clause-verdict
 returns-in-None-clause-verdict c =
     let s = c.args.problem.now in
-    let none = ap (find is_wrong) (sym c.requires) ∙ none_first is_wrong c.args.table.now (sym c.in-None.ensures) in
+    let none = ap (find is_wrong) (sym c.requires) ∙ none_first is_wrong c.args.table.now (sym c.in-None.ensures.first) in
     ap Accepted c.block_count-blocks.ensures.count ∙ sym (ap (verdict_at s) none)
 
 pub returns-in-Some-clause-verdict : goal.returns-in-Some-clause-verdict
 returns-in-Some-clause-verdict c =
     let s = c.args.problem.now in
     let e = entry_at c.args.table.now c.in-Some.place in
-    let first = found_first is_wrong c.args.table.now c.in-Some.place record { row = Diff 0; found = 0; stated = 0 } (sym c.in-Some.ensures) in
+    let first = found_first is_wrong c.args.table.now c.in-Some.place record { row = Diff 0; found = 0; stated = 0 } (sym c.in-Some.ensures.first) in
     let is = ap (find is_wrong) (sym c.requires) ∙ first.1 in
     ap (λ row. Refused row c.found.result c.stated.result) c.row.ensures ∙ ap (λ found. Refused e.row found c.stated.result) c.found.ensures
     ∙ ap (Refused e.row e.found) c.stated.ensures ∙ sym (ap (verdict_at s) is)
