@@ -1,5 +1,5 @@
 -- Two of the maps that agree on all points are one.
-use Rattle.std.proofs.Common.{◌≡◌, ℕ, suc, zero, ◌+◌, ◌-◌, ◌*◌, ◌/◌, ◌%◌, ◌<◌, ◌≤◌, ◌⊎◌, List, [], ◌∷◌, All, length, get_or, drop, refl, sym, ap, ap₂, ◌∙◌, subst, inl, inr, arith, ⊎_elim, mul-one, mul_comm, mul-le-mul_right}
+use Rattle.std.proofs.Common.{◌≡◌, ℕ, suc, zero, ◌+◌, ◌-◌, ◌*◌, ◌/◌, ◌%◌, ◌<◌, ◌≤◌, List, [], ◌∷◌, All, length, get_or, drop, refl, sym, ap, ap₂, ◌∙◌, arith, ⊎_elim, mul-one, mul_comm}
 use Rattle.std.proofs.Math.Nat.{div-add-mod', mul-mod_left, mul-sub}
 use Rattle.std.proofs.lemmas.Bool.{cases_lt}
 use Rattle.df_lists.specs.Membership.{In}
@@ -10,7 +10,7 @@ use Rattle.df_group.proofs.GroupLaws.{zero_plus, plus_apart}
 use Rattle.df_group.proofs.ExponentLaws.{exponent_least}
 use Rattle.df_group.proofs.MultipleLaws.{are_multiples}
 use Rattle.df_acting.proofs.ImageLaws.{In-set}
-use Rattle.df_maps.specs.FullMaps.{MapGroup, IsMaps, moved, carried, point_count, full_maps, map_number}
+use Rattle.df_maps.specs.FullMaps.{MapGroup, IsMaps, carried, point_count, full_maps, map_number}
 use Rattle.df_maps.proofs.NumberLaws.{length-pairs, row_below}
 use Rattle.df_maps.proofs.SetLists.{set_apart, In-get_or}
 use Rattle.df_maps.proofs.GroupOfMaps.{moved_low, times_zero}

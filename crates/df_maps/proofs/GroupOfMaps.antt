@@ -1,18 +1,16 @@
 -- The maps x -> m x + h are a group on the points, and no two of them agree.
-use Rattle.std.proofs.Common.{◌≡◌, ℕ, suc, zero, ◌+◌, ◌-◌, ◌*◌, ◌/◌, ◌%◌, ◌<◌, ◌≤◌, ◌⊎◌, true, map, List, [], ◌∷◌, All, length, get_or, refl, sym, ap, ap₂, ◌∙◌, subst, inl, inr, arith, eqb, ⊎_elim, lt-ltb, le-ltb, mod-lt, mod-eq_of_lt, mul_comm, mul_assoc, mul-one, one-mul, zero-mul}
-use Rattle.std.proofs.Math.Nat.{mod-mod, div-add-mod', mod_self}
+use Rattle.std.proofs.Common.{◌≡◌, ℕ, suc, zero, ◌+◌, ◌-◌, ◌*◌, ◌/◌, ◌%◌, ◌<◌, ◌≤◌, map, List, [], ◌∷◌, length, get_or, refl, sym, ap, ap₂, ◌∙◌, subst, arith, eqb, ⊎_elim, lt-ltb, le-ltb, mod-eq_of_lt, mul_comm, mul_assoc, one-mul, zero-mul}
+use Rattle.std.proofs.Math.Nat.{mod_self}
 use Rattle.std.proofs.lemmas.Nat.{mul-mod_first, mul-mod_second}
-use Rattle.std.proofs.lemmas.Bool.{cases_lt, cases_order}
+use Rattle.std.proofs.lemmas.Bool.{cases_lt}
 use Rattle.std.specs.List.{range_with_len}
-use Rattle.df_lists.specs.Membership.{In, count}
-use Rattle.df_lists.specs.NumberSets.{has_member}
+use Rattle.df_lists.specs.Membership.{In}
 use Rattle.df_lists.proofs.MemberLaws.{In-map}
-use Rattle.df_group.specs.Elements.{Group, IsGroup, group_of, order_of, IsElement, residues, number, multiple_of}
-use Rattle.df_group.specs.Subgroups.{exponent_of, is_unit}
-use Rattle.df_group.specs.Multiples.{AreMultiples, Undoes}
-use Rattle.df_group.proofs.ElementLaws.{ArePositive, positive_shape, is_group, order_some, residues_number, number_within}
-use Rattle.df_group.proofs.GroupLaws.{zero_plus, plus_apart}
-use Rattle.df_group.proofs.ExponentLaws.{exponent_some, exponent_low, exponent_least}
+use Rattle.df_group.specs.Elements.{Group, IsGroup, group_of, order_of}
+use Rattle.df_group.specs.Subgroups.{exponent_of}
+use Rattle.df_group.specs.Multiples.{AreMultiples}
+use Rattle.df_group.proofs.ElementLaws.{ArePositive, positive_shape, is_group}
+use Rattle.df_group.proofs.ExponentLaws.{exponent_some, exponent_low}
 use Rattle.df_group.proofs.UnitLaws.{IsUndone, unit_undone}
 use Rattle.df_group.proofs.MultipleLaws.{are_multiples}
 use Rattle.df_acting.specs.Classes.{IsMapGroup}
@@ -21,7 +19,7 @@ use Rattle.df_acting.proofs.ImageLaws.{In-set, In-points, numbers_equal}
 use Rattle.df_acting.proofs.OntoLists.{onto}
 use Rattle.df_maps.specs.FullMaps.{MapGroup, IsMaps, moved, carried, point_count, full_maps, map_number}
 use Rattle.df_maps.proofs.NumberLaws.{In-pairs, In-pairs_gives, length-pairs, pairs_numbered}
-use Rattle.df_maps.proofs.SetLists.{set_once, set_apart, set_first, In-get_or}
+use Rattle.df_maps.proofs.SetLists.{set_once, set_first}
 
 -- m s and m t are alike only where s and t are
 undone_apart : (e m s t : ℕ) → IsUndone e m → (m * s) % e ≡ (m * t) % e → s % e ≡ t % e

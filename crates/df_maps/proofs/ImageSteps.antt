@@ -1,5 +1,5 @@
 -- The image of a block, point by point.
-use Rattle.std.proofs.Common.{◌≡◌, ℕ, ◌+◌, ◌*◌, ◌<◌, ◌≤◌, Bool, true, false, ◌||◌, List, [], ◌∷◌, map, length, refl, sym, ap, ◌∙◌, subst, arith, eqb}
+use Rattle.std.proofs.Common.{◌≡◌, ℕ, Bool, true, false, ◌||◌, List, [], ◌∷◌, map, refl, sym, ap, ◌∙◌, eqb}
 use Rattle.std.specs.List.{list_any, range_with_len}
 use Rattle.df_lists.specs.NumberSets.{has_member, IsSet}
 use Rattle.df_lists.proofs.TestLaws.{filter_agree}

@@ -1,11 +1,11 @@
 -- Tests, counts and earliest members over the maps by their numbers.
-use Rattle.std.proofs.Common.{◌≡◌, ℕ, zero, suc, ◌+◌, ◌<◌, Bool, true, false, not, cond, ◌&&◌, ◌++◌, map, filter, List, [], ◌∷◌, length, refl, sym, ap, ap₂, ◌∙◌, subst, arith, length-append}
+use Rattle.std.proofs.Common.{◌≡◌, ℕ, ◌+◌, ◌<◌, Bool, true, false, cond, ◌&&◌, ◌++◌, map, List, [], ◌∷◌, length, refl, sym, ap, ap₂, ◌∙◌}
 use Rattle.std.proofs.lemmas.Bool.{false_from_ne_true, both_ways}
 use Rattle.std.proofs.lemmas.List.{map-append}
 use Rattle.std.specs.List.{list_all, range_with_len}
-use Rattle.df_lists.specs.Membership.{In, count}
+use Rattle.df_lists.specs.Membership.{count}
 use Rattle.df_lists.specs.BitLaws.{range_more}
-use Rattle.df_lists.proofs.MemberLaws.{count-append, count-map}
+use Rattle.df_lists.proofs.MemberLaws.{count-append}
 use Rattle.df_acting.specs.Earliest.{earliest}
 use Rattle.df_lists.proofs.TestLaws.{all_gives}
 use Rattle.df_acting.proofs.ImageLaws.{In-points}

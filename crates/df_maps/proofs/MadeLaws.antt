@@ -1,8 +1,7 @@
 -- The products of units with a subgroup's members are a group of maps.
-use Rattle.std.proofs.Common.{◌≡◌, ℕ, ◌+◌, ◌*◌, ◌%◌, ◌<◌, ◌≤◌, ◌++◌, true, List, [], ◌∷◌, refl, sym, ap, ◌∙◌, subst, arith, mod-eq_of_lt, mul_assoc, one-mul}
+use Rattle.std.proofs.Common.{◌≡◌, ℕ, ◌+◌, ◌*◌, ◌%◌, ◌<◌, ◌≤◌, ◌++◌, true, List, [], ◌∷◌, sym, ap, ◌∙◌, subst, arith, mod-eq_of_lt, mul_assoc, one-mul}
 use Rattle.std.proofs.lemmas.Nat.{mul-mod_first, mul-mod_second}
 use Rattle.df_lists.specs.Membership.{In}
-use Rattle.df_lists.specs.NumberSets.{has_member}
 use Rattle.df_group.specs.Elements.{group_of, order_of, IsShape}
 use Rattle.df_group.specs.Subgroups.{exponent_of, is_unit, IsSubgroup}
 use Rattle.df_group.specs.Multiples.{AreUnits}

@@ -1,5 +1,5 @@
 -- What each group of maps is, in one record.
-use Rattle.std.proofs.Common.{◌≡◌, ℕ, suc, zero, ◌<◌, ◌*◌, ◌/◌, List, [], ◌∷◌, All, length, get_or, refl, subst, inl, inr, arith}
+use Rattle.std.proofs.Common.{ℕ, suc, ◌<◌, ◌/◌, List, [], ◌∷◌, All, length, refl, subst, inl, inr, arith}
 use Rattle.df_lists.specs.Membership.{In}
 use Rattle.df_group.specs.Elements.{order_of}
 use Rattle.df_acting.proofs.ImageLaws.{In-set}

@@ -1,13 +1,13 @@
 -- Increasing lists of numbers: each once, in places that tell them apart, the least first.
-use Rattle.std.proofs.Common.{◌≡◌, ℕ, suc, zero, ◌+◌, ◌<◌, ◌≤◌, Bool, true, false, cond, ◌&&◌, List, [], ◌∷◌, length, filter, get_or, refl, sym, ap, ◌∙◌, subst, inl, inr, ◌⊎◌, arith, eqb, ltb, ⊎_elim, eq-eqb, eqb-true, ltb-true, lt-ltb}
-use Rattle.std.proofs.lemmas.Bool.{cases_order, cases_lt, false≢true}
+use Rattle.std.proofs.Common.{◌≡◌, ℕ, suc, zero, ◌+◌, ◌<◌, Bool, true, false, cond, ◌&&◌, List, [], ◌∷◌, length, filter, get_or, refl, sym, ap, ◌∙◌, subst, inl, inr, ◌⊎◌, arith, eqb, ltb, eqb-true, ltb-true, lt-ltb}
+use Rattle.std.proofs.lemmas.Bool.{cases_order}
 use Rattle.std.proofs.Math.Bool.{and-true}
 use Rattle.std.specs.List.{range_with_len}
 use Rattle.df_lists.specs.Membership.{In, count}
 use Rattle.df_lists.specs.NumberSets.{has_member, IsSet}
 use Rattle.df_lists.proofs.MemberLaws.{In-filter_gives, In-range_gives}
 use Rattle.df_lists.specs.Orders.{IsSorted}
-use Rattle.df_lists.proofs.TestLaws.{same_tests, filter_agree, has_from}
+use Rattle.df_lists.proofs.TestLaws.{filter_agree, has_from}
 use Rattle.df_acting.proofs.ImageLaws.{range_once, In-set}
 
 pub filter-filter : {X : Type 0} (q p : X → Bool) (xs : List X) → filter q (filter p xs) ≡ filter (λ x. p x && q x) xs

@@ -1,16 +1,16 @@
 -- The sums of multiples of generators are closed under sums.
-use Rattle.std.proofs.Common.{◌≡◌, ℕ, suc, zero, ◌+◌, ◌*◌, ◌%◌, ◌<◌, ◌≤◌, map, List, [], ◌∷◌, refl, sym, ap, ap₂, ◌∙◌, subst, inl, inr, arith, mod-lt}
+use Rattle.std.proofs.Common.{◌≡◌, ℕ, ◌+◌, ◌%◌, ◌<◌, map, List, [], ◌∷◌, refl, sym, ap, ap₂, ◌∙◌, subst, inl, inr, mod-lt}
 use Rattle.std.specs.List.{range_with_len, flat_map}
 use Rattle.df_lists.specs.Membership.{In}
-use Rattle.df_lists.specs.NumberSets.{IsSet, has_member, set_of}
+use Rattle.df_lists.specs.NumberSets.{IsSet, has_member}
 use Rattle.df_lists.proofs.MemberLaws.{In-map, In-map_gives}
-use Rattle.df_group.specs.Elements.{Group, IsGroup, group_of, order_of, IsShape}
+use Rattle.df_group.specs.Elements.{IsGroup, group_of, order_of, IsShape}
 use Rattle.df_group.specs.Subgroups.{exponent_of, sums, generated, IsSubgroup}
 use Rattle.df_group.specs.Multiples.{AreMultiples}
 use Rattle.df_group.proofs.ElementLaws.{positive_shape, is_group}
 use Rattle.df_group.proofs.ExponentLaws.{exponent_some}
 use Rattle.df_group.proofs.MultipleLaws.{are_multiples}
-use Rattle.df_acting.proofs.ImageLaws.{In-points, In-points_gives, filter_is_set}
+use Rattle.df_acting.proofs.ImageLaws.{In-points, filter_is_set}
 use Rattle.df_maps.proofs.ProductLaws.{In-flat_map, In-flat_map_gives, In-set_of, In-set_of_gives}
 
 module _ (fs : List ℕ) (is : IsShape fs) where

@@ -1,25 +1,23 @@
 -- The maps are turned among themselves by each of them.
-use Rattle.std.proofs.Common.{◌≡◌, ℕ, suc, zero, ◌+◌, ◌*◌, ◌%◌, ◌<◌, Bool, true, false, ◌&&◌, map, List, [], ◌∷◌, length, refl, sym, ap, ap₂, ◌∙◌, subst, inl, inr, arith, eqb, eqb-true, eq-eqb, mul_assoc, one-mul, suc-mul}
+use Rattle.std.proofs.Common.{◌≡◌, ℕ, ◌+◌, ◌*◌, ◌%◌, Bool, true, false, ◌&&◌, map, List, [], ◌∷◌, length, refl, sym, ap, ap₂, ◌∙◌, arith, eqb, eqb-true, eq-eqb, mul_assoc, one-mul, suc-mul}
 use Rattle.std.proofs.lemmas.Nat.{mul-mod_first, mul-mod_second}
 use Rattle.std.proofs.lemmas.Bool.{and_parts, and_from}
 use Rattle.df_lists.specs.Membership.{In, count}
 use Rattle.df_lists.specs.NumberSets.{IsSet}
 use Rattle.df_lists.proofs.MemberLaws.{count-append, count-map, count_none}
-use Rattle.df_lists.proofs.ListTotals.{count_agree}
 use Rattle.df_group.specs.Elements.{group_of}
 use Rattle.df_group.specs.Subgroups.{exponent_of}
 use Rattle.df_group.proofs.ElementLaws.{is_group}
 use Rattle.df_group.proofs.MultipleLaws.{are_multiples}
 use Rattle.df_lists.specs.Orders.{IsEquality}
 use Rattle.df_acting.specs.Classes.{IsMapGroup, IsSpread, in_one_class}
-use Rattle.df_acting.specs.Images as acting
 use Rattle.df_acting.proofs.ClassLaws.{permutes}
 use Rattle.df_acting.proofs.ImageLaws.{image_group, image_times}
 use Rattle.df_acting.proofs.StabilizerLaws.{orbit_stabilizer}
 use Rattle.df_maps.specs.FullMaps.{MapGroup, IsMaps, full_maps, carried, point_count, image}
 use Rattle.df_maps.proofs.NumberLaws.{pairs, In-pairs_gives}
 use Rattle.df_maps.proofs.SetLists.{set_once}
-use Rattle.df_maps.proofs.GroupOfMaps.{after, after_in, back_of, small, one_in, zero_in, one_after_another, group, carried_after, shift_low, identity_in}
+use Rattle.df_maps.proofs.GroupOfMaps.{after_in, back_of, small, one_after_another, group, carried_after, shift_low, identity_in}
 
 abbrev pub same_pair : ℕ × ℕ → ℕ × ℕ → Bool
 same_pair (a, b) (c, d) = eqb a c && eqb b d

@@ -55,6 +55,18 @@ impl Maps {
         }
     }
 
+    /// The same maps once more, without taking memory.
+    pub fn copied(&self) -> Maps
+        ensures { result ≡ self.now }
+    {
+        Maps {
+            shape: self.shape.copied(),
+            fixed: self.fixed,
+            products: kept(self.products.as_slice()),
+            shifts: kept(self.shifts.as_slice()),
+        }
+    }
+
     /// The number of points, from 2 to 128: the elements and the fixed points.
     pub fn points(&self) -> u8
         ensures points { result ≡ point_count self.now }
@@ -192,4 +204,16 @@ fn members_of(shape: &Shape, subgroup: &Subgroup) -> ArrayVec<Elem, 128>
         members.push(Elem(number));
     }
     members
+}
+
+// The items once more.
+fn kept<T: Copy + Default>(items: &[T]) -> ArrayVec<T, 128>
+    requires { length items.now ≤ 128 }
+    ensures { result.items ≡ items.now }
+{
+    let mut kept = ArrayVec::new();
+    match kept.try_extend_from_slice(items) {
+        Ok(()) => kept,
+        Err(_) => unreachable!(),
+    }
 }

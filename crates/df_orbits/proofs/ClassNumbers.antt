@@ -1,15 +1,13 @@
 -- Where the earliest member of a block's class stands among all earliest members.
-use Rattle.std.proofs.Common.{◌≡◌, ℕ, suc, zero, ◌+◌, ◌<◌, ◌≤◌, Bool, true, false, ◌||◌, cond, map, filter, List, [], ◌∷◌, length, get_or, refl, sym, ap, ap₂, ◌∙◌, subst, inl, inr, ◌⊎◌, arith, eqb, eq-eqb, eqb-true, ⊎_elim, slice_get, Some}
+use Rattle.std.proofs.Common.{◌≡◌, ℕ, suc, zero, ◌+◌, ◌<◌, ◌≤◌, Bool, true, false, ◌||◌, cond, filter, List, [], ◌∷◌, length, get_or, refl, sym, ap, ◌∙◌, subst, inl, inr, ◌⊎◌, arith, eqb, eq-eqb, eqb-true, ⊎_elim, slice_get, Some}
 use Rattle.std.proofs.lemmas.Option.{slice_get-get_or, get_or_from_slice_get, slice_get_within}
 use Rattle.std.proofs.lemmas.Bool.{both_ways, cases_order, cases_lt, false_from_ne_true}
-use Rattle.std.proofs.lemmas.List.{length-map}
-use Rattle.std.specs.List.{range_with_len, list_any}
 use Rattle.df_lists.specs.Membership.{In}
 use Rattle.df_lists.specs.NumberSets.{IsSet}
 use Rattle.df_lists.proofs.MemberLaws.{In-filter, In-filter_gives}
 use Rattle.df_subsets.specs.Blocks.{before}
 use Rattle.df_lists.specs.Orders.{IsSorted}
-use Rattle.df_subsets.specs.Subsets.{points, choose, subsets, candidates, nonempty, same_list}
+use Rattle.df_subsets.specs.Subsets.{points, subsets, candidates, nonempty, same_list}
 use Rattle.df_subsets.proofs.BlockLaws.{set_is_block}
 use Rattle.df_subsets.proofs.BlockOrders.{lists_ordered}
 use Rattle.df_subsets.proofs.SubsetLists.{same_list-gives, same_list-self}
@@ -24,7 +22,7 @@ use Rattle.df_maps.specs.Laws.{AreGroup}
 use Rattle.df_maps.proofs.LoopSteps.{map-map}
 use Rattle.df_maps.proofs.SetLists.{In-get_or}
 use Rattle.df_orbits.specs.OrbitClasses.{are_alike, class_size, classes_of, earliest_of, block_classes, first_members, earliest_alike}
-use Rattle.df_orbits.proofs.FoundClasses.{blocks_group, alike_comm}
+use Rattle.df_orbits.proofs.FoundClasses.{blocks_group}
 
 -- the blocks of one size
 pub one_size : (v k : ℕ) → subsets v k ≡ candidates v (k ∷ [])
@@ -78,6 +76,9 @@ module _ (M : MapGroup) (A : AreGroup M) (sizes : List ℕ) where
         let g = least_gives same_list (image M) (IsSet (point_count M)) (full_maps M) lists_equal (blocks_group M A) before lists_ordered b set in
         In-filter (is_earliest before (image M) (full_maps M)) (candidates (point_count M) sizes) (earliest_alike M b) (subst (In (candidates (point_count M) sizes)) g.2 (spread.moves g.0 g.1 b candidate))
         (least_least same_list (image M) (IsSet (point_count M)) (full_maps M) lists_equal (blocks_group M A) before lists_ordered b set)
+
+    pub number_exists : (r : ℕ) × (r < length E) × (get_or E r [] ≡ earliest_alike M b)
+    number_exists = In-place E (earliest_alike M b) [] least_in
 
     -- the place before which all are earlier, and from which on none is
     pub number_found : (r : ℕ) → r ≤ length E → ((i : ℕ) → i < r → before (get_or E i []) (earliest_alike M b) ≡ true) → ((i : ℕ) → r ≤ i → i < length E → before (get_or E i []) (earliest_alike M b) ≡ false) → (r < length E) × (get_or E r [] ≡ earliest_alike M b)

@@ -1,7 +1,7 @@
 -- The earliest members, one place after another.
-use Rattle.std.proofs.Common.{◌≡◌, ℕ, suc, zero, ◌+◌, ◌<◌, Bool, true, false, not, cond, ◌||◌, ◌++◌, map, filter, List, [], ◌∷◌, length, get_or, take, drop, refl, sym, ap, ap₂, ◌∙◌, subst, inl, inr, arith, ⊎_elim, append-nil, append_assoc}
+use Rattle.std.proofs.Common.{◌≡◌, ℕ, ◌+◌, ◌<◌, Bool, true, false, not, cond, ◌||◌, ◌++◌, filter, List, [], ◌∷◌, length, get_or, take, drop, sym, ap, ◌∙◌, subst, ⊎_elim, append-nil}
 use Rattle.std.proofs.lemmas.Bool.{not_from_false, not_from_true, or_left, or_cases}
-use Rattle.std.proofs.lemmas.List.{take_more, take-append-drop, drop_more, map-append}
+use Rattle.std.proofs.lemmas.List.{take_more, take-append-drop, drop_more}
 use Rattle.std.proofs.lemmas.List.Elements.{filter-append}
 use Rattle.std.specs.List.{list_any}
 use Rattle.df_lists.specs.Membership.{In, count}

@@ -7,3 +7,9 @@ pub mod PlaceTests
 pub mod SizeSums
 pub mod SizedClasses
 pub mod SortedLists
+pub mod NumberedMaps
+pub mod PairPlaces
+pub mod PairNumbering
+pub mod TableLooks
+pub mod BinomialBounds
+pub mod LaterCounts

@@ -1,5 +1,5 @@
 -- One more mark among the bits of words.
-use Rattle.std.proofs.Common.{◌≡◌, ℕ, ◌+◌, ◌*◌, ◌^◌, ◌/◌, ◌%◌, ◌<◌, Bool, true, false, ◌||◌, List, [], ◌∷◌, length, get_or, set, get_or-set_same, get_or-set_other, eq-eqb, ne_eqb, refl, sym, ap, ap₂, ◌∙◌, subst, arith, eqb, ⊎_elim, bit_or}
+use Rattle.std.proofs.Common.{◌≡◌, ℕ, ◌+◌, ◌*◌, ◌^◌, ◌/◌, ◌%◌, ◌<◌, Bool, true, false, ◌||◌, List, [], ◌∷◌, length, get_or, set, get_or-set_same, get_or-set_other, eq-eqb, ne_eqb, refl, sym, ap, ap₂, ◌∙◌, arith, eqb, ⊎_elim, bit_or}
 use Rattle.std.proofs.Math.Nat.{div-add-mod'}
 use Rattle.std.proofs.lemmas.Bool.{cases_eq, or_right}
 use Rattle.std.proofs.lemmas.Nat.Bits.{bit_at_set_same, bit_at_set_other}

@@ -1,5 +1,5 @@
 -- What is shown of the orbits that are kept.
-use Rattle.std.proofs.Common.{◌≡◌, ℕ, ◌<◌, map, List, [], ◌∷◌, length, get_or, refl, sym, ap, ◌∙◌, Option, slice_get, Some}
+use Rattle.std.proofs.Common.{◌≡◌, ℕ, ◌<◌, map, List, length, get_or, refl, ap, ◌∙◌, slice_get, Some}
 use Rattle.std.proofs.lemmas.Option.{slice_get_read, slice_get-map}
 use Rattle.std.specs.Option.{option_map}
 use Rattle.df_orbits.specs.OrbitClasses.{first_members, class_sizes}

@@ -1,5 +1,5 @@
 -- How many pairs of points there are.
-use Rattle.std.proofs.Common.{◌≡◌, ℕ, ◌+◌, ◌-◌, ◌*◌, ◌≤◌, arith, mul-le-mul}
+use Rattle.std.proofs.Common.{◌≡◌, ℕ, ◌-◌, ◌*◌, ◌≤◌, arith, mul-le-mul}
 use Rattle.df_subsets.specs.Subsets.{binomial}
 use Rattle.df_subsets.proofs.Binomials.{binomial_turn}
 

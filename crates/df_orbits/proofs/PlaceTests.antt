@@ -1,7 +1,6 @@
 -- Places of blocks among all of their size.
-use Rattle.std.proofs.Common.{◌≡◌, ℕ, ◌+◌, ◌<◌, Bool, true, false, ◌||◌, List, [], ◌∷◌, ◌++◌, length, get_or, take, drop, refl, sym, ap, ◌∙◌, subst, arith, eqb, eq-eqb, eqb-true, slice_get, Some}
+use Rattle.std.proofs.Common.{◌≡◌, ℕ, ◌<◌, true, List, [], get_or, sym, ap, ◌∙◌, subst, arith, eqb, eq-eqb, eqb-true, slice_get, Some}
 use Rattle.std.proofs.lemmas.Option.{slice_get-get_or, get_or_from_slice_get}
-use Rattle.df_subsets.specs.Blocks.{IsBlock}
 use Rattle.df_subsets.specs.Subsets.{subsets, binomial, same_list, rank}
 use Rattle.df_subsets.proofs.SubsetLists.{subsets_long, same_list-gives, same_list-self}
 use Rattle.df_subsets.proofs.Places.{rank_of}

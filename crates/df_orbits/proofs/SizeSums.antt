@@ -1,7 +1,6 @@
 -- How many blocks have one of several sizes.
-use Rattle.std.proofs.Common.{◌≡◌, ℕ, suc, zero, ◌+◌, ◌*◌, ◌^◌, ◌<◌, ◌≤◌, Bool, true, false, ◌||◌, cond, ◌++◌, map, filter, List, [], ◌∷◌, All, length, get_or, take, drop, refl, sym, ap, ap₂, ◌∙◌, subst, inl, inr, arith, eqb, eqb-true, ⊎_elim, length-append}
+use Rattle.std.proofs.Common.{◌≡◌, ℕ, suc, ◌+◌, ◌^◌, ◌<◌, ◌≤◌, Bool, true, false, ◌||◌, cond, map, filter, List, [], ◌∷◌, length, get_or, take, drop, refl, sym, ap, ap₂, ◌∙◌, subst, inl, inr, arith, eqb, eqb-true, length-append}
 use Rattle.std.proofs.Math.Nat.{pow-suc, pow-le-pow_right}
-use Rattle.std.proofs.lemmas.Bool.{both_ways}
 use Rattle.std.proofs.lemmas.List.{length-map, take_more, take-append-drop}
 use Rattle.std.proofs.lemmas.List.FromFn.{length-range_with_len}
 use Rattle.std.proofs.lemmas.List.Recursion.{is_sum_by}
@@ -11,11 +10,10 @@ use Rattle.std.specs.List.Sorted.{IsStrictlyIncreasing}
 use Rattle.df_lists.specs.Membership.{In, count}
 use Rattle.df_lists.specs.Totals.{one}
 use Rattle.df_lists.proofs.ListTotals.{list_total, list_total_agree, list_total_both, count_total}
-use Rattle.df_subsets.specs.Subsets.{points, choose, nonempty, binomial}
+use Rattle.df_subsets.specs.Subsets.{points, nonempty, binomial}
 use Rattle.df_subsets.proofs.SubsetLists.{subsets_long}
 use Rattle.df_subsets.proofs.SizedLists.{choose_is}
 use Rattle.df_lists.proofs.TestLaws.{any_gives}
-use Rattle.df_maps.proofs.ProductLaws.{count_most}
 use Rattle.df_orbits.proofs.SizedClasses.{AreDistinct}
 
 length_nonempty : (ps : List ℕ) → length (nonempty ps) + 1 ≡ 2 ^ length ps

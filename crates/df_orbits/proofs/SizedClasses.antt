@@ -1,8 +1,6 @@
 -- The classes of several sizes, in one order.
-use Rattle.std.proofs.Common.{◌≡◌, ℕ, suc, zero, ◌+◌, ◌*◌, ◌^◌, ◌<◌, ◌≤◌, Bool, true, false, ◌&&◌, ◌||◌, cond, ◌++◌, map, filter, List, [], ◌∷◌, All, length, get_or, refl, sym, ap, ap₂, ◌∙◌, subst, inl, inr, ◌⊎◌, arith, eqb, eq-eqb, eqb-true, ne_eqb, ⊎_elim, length-append}
-use Rattle.std.proofs.lemmas.Bool.{both_ways, cases_eq, cases_lt, false_from_ne_true}
-use Rattle.std.proofs.lemmas.List.{length-map}
-use Rattle.std.proofs.lemmas.List.FromFn.{length-range_with_len}
+use Rattle.std.proofs.Common.{◌≡◌, ℕ, suc, zero, ◌+◌, ◌<◌, ◌≤◌, Bool, true, false, ◌&&◌, ◌||◌, cond, map, filter, List, [], ◌∷◌, All, length, get_or, refl, sym, ap, ap₂, ◌∙◌, subst, inl, inr, arith, eqb, eq-eqb, eqb-true, ⊎_elim}
+use Rattle.std.proofs.lemmas.Bool.{both_ways, cases_lt, false_from_ne_true}
 use Rattle.std.proofs.lemmas.List.Recursion.{is_sum_by}
 use Rattle.std.proofs.lemmas.List.Sorted.{sum_by-IsPermutation, All-permutation}
 use Rattle.std.specs.List.{flat_map, list_any, sum_by}
@@ -11,16 +9,16 @@ use Rattle.df_lists.specs.Membership.{In, count}
 use Rattle.df_lists.specs.NumberSets.{IsSet}
 use Rattle.df_lists.specs.Totals.{one}
 use Rattle.df_lists.proofs.MemberLaws.{In-filter, In-filter_gives, In-map, In-map_gives, count-append, count-map, count_none, count_some, count_gives}
-use Rattle.df_lists.proofs.ListTotals.{list_total, count_total, count_agree}
+use Rattle.df_lists.proofs.ListTotals.{list_total, count_total}
 use Rattle.df_subsets.specs.Blocks.{IsBlock, before}
 use Rattle.df_lists.specs.Orders.{IsSorted}
-use Rattle.df_subsets.specs.Subsets.{points, subsets, candidates, nonempty, same_list, binomial}
+use Rattle.df_subsets.specs.Subsets.{points, subsets, candidates, nonempty, same_list}
 use Rattle.df_subsets.proofs.BlockLaws.{block_is_set}
 use Rattle.df_subsets.proofs.BlockOrders.{lists_ordered}
-use Rattle.df_subsets.proofs.SubsetLists.{same_list-gives, same_list-self, subsets_inside, subsets_once, subsets_have, subsets_long}
+use Rattle.df_subsets.proofs.SubsetLists.{same_list-gives, same_list-self, subsets_inside, subsets_once, subsets_have}
 use Rattle.df_subsets.proofs.SizedLists.{candidates_inside, candidates_have}
 use Rattle.df_acting.specs.Earliest.{is_earliest}
-use Rattle.df_lists.proofs.TestLaws.{same_tests, any_from, any_gives, filter_agree, map_agree}
+use Rattle.df_lists.proofs.TestLaws.{any_from, any_gives, filter_agree, map_agree}
 use Rattle.df_acting.proofs.ClassLaws.{class_gives}
 use Rattle.df_acting.proofs.ImageLaws.{length-image}
 use Rattle.df_acting.proofs.SpreadLaws.{lists_equal}
@@ -30,10 +28,10 @@ use Rattle.df_maps.specs.Laws.{AreGroup}
 use Rattle.df_maps.proofs.LoopSteps.{map-map}
 use Rattle.df_maps.proofs.ProductLaws.{In-flat_map, In-flat_map_gives, count_most}
 use Rattle.df_maps.proofs.SetLists.{In-get_or, filter-filter}
-use Rattle.df_orbits.specs.OrbitClasses.{are_alike, class_size, classes_of, earliest_of, block_classes, first_members}
+use Rattle.df_orbits.specs.OrbitClasses.{are_alike, class_size, classes_of, earliest_of, block_classes}
 use Rattle.df_orbits.specs.declared.orbits.Orbit.{Orbit}
 use Rattle.df_orbits.proofs.OrbitLists.{shown}
-use Rattle.df_orbits.proofs.ClassNumbers.{one_size, members_are, members_sorted, In-place}
+use Rattle.df_orbits.proofs.ClassNumbers.{one_size, members_sorted, In-place}
 use Rattle.df_orbits.proofs.FoundClasses.{blocks_group}
 
 -- no number is listed twice

@@ -1,2 +1,3 @@
 pub mod OrbitClasses
 pub mod MarkedPlaces
+pub mod LookupTables

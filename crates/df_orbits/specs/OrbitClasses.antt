@@ -1,5 +1,5 @@
 -- Classes of blocks under a group of maps, and their earliest members (Kramer and Mesner 1976, for t = 2).
-use Rattle.std.specs.Prelude.{ℕ, Bool, List, [], ◌∷◌, map}
+use Rattle.std.specs.Prelude.{ℕ, Bool, List, map}
 use Rattle.df_lists.specs.Membership.{count}
 use Rattle.df_subsets.specs.Blocks.{before}
 use Rattle.df_subsets.specs.Subsets.{subsets, candidates, same_list}

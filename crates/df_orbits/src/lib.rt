@@ -3,11 +3,17 @@
 //! The crates above see an `Orbits` as the list of earliest members and sizes, and cite the words of specs/OrbitClasses.antt, which are stated by single maps alone.
 #![tactic(auto)]
 
+#[cfg(test)]
+mod comparisons;
+mod images;
 mod marks;
+mod numbers;
 mod orbits;
+mod places;
 #[cfg(test)]
 mod tests;
 
+pub use numbers::PairNumbers;
 pub use orbits::{OrbitError, Orbits, pair_orbits, sized_orbits, subset_orbits};
 
 /// Want of memory.

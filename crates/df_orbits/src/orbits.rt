@@ -1,19 +1,20 @@
 // The classes of blocks under a group of maps, by their earliest members.
-ghost use Rattle.std.specs.Prelude.{◌≡◌, ◌==◌, ◌||◌, ◌*◌, ◌<◌, ◌≤◌, ◌∷◌, ◌++◌, [], ℕ, List, length, map, slice_get, slice_index_or, Some, Err, All, IfOk, IfErr, sum_by};
+ghost use Rattle.std.specs.Prelude.{◌≡◌, ◌==◌, ◌||◌, ◌-◌, ◌*◌, ◌<◌, ◌≤◌, ◌∷◌, ◌++◌, [], ℕ, List, length, map, slice_get, slice_index_or, Some, Err, All, IfOk, IfErr, sum_by};
 ghost use Rattle.std.specs.List.Sorted.{IsStrictlyIncreasing};
-ghost use Rattle.df_lists.specs.Membership.{In};
+ghost use Rattle.df_lists.specs.Membership.{In, count};
 ghost use Rattle.df_subsets.specs.Blocks.{IsBlock};
 ghost use Rattle.df_subsets.specs.Subsets.{subsets, binomial as binomial_of};
 ghost use Rattle.df_maps.specs.FullMaps.{point_count};
-ghost use Rattle.df_maps.specs.Laws.{AreGroup};
 ghost use Rattle.df_orbits.specs.MarkedPlaces.{is_marked};
 ghost use Rattle.df_orbits.specs.OrbitClasses.{are_alike, class_size, classes_of, pair_classes, block_classes, first_members, class_sizes, earliest_alike};
 ghost use Rattle.df_orbits.specs.declared.orbits.OrbitError.TheVariants.{TooManySubsets, TooManySummed, OutOfMemory as OutOfMemoryError};
 
 use crate::OutOfMemory;
+use crate::images::Images;
 use crate::marks::Marks;
+use crate::places::Places;
 use df_maps::Maps;
-use df_subsets::{Block, binomial, rank, unrank};
+use df_subsets::{Block, binomial, first, next};
 use std::alloc::{AllocError, Global};
 use std::marker::Model;
 
@@ -109,8 +110,9 @@ pub fn pair_orbits(alloc: Global, maps: &Maps) -> Result<Orbits, OutOfMemory>
     ensures pairs { IfOk result (λ orbits. orbits ≡ pair_classes maps.now) }
     ensures sized { IfOk result (λ orbits. orbits ≡ block_classes maps.now (2 ∷ [])) }
 {
+    let images = Images::new(alloc, maps)?;
     let mut found = Vec::new(alloc);
-    find(alloc, maps, maps.points(), 2, &mut found)?;
+    find(alloc, &images, 2, &mut found)?;
     Ok(Orbits { found })
 }
 
@@ -128,8 +130,9 @@ pub fn subset_orbits(alloc: Global, maps: &Maps, size: u8) -> Result<Orbits, Orb
     if binomial(points, size) > 2_000_000 {
         return Err(OrbitError::TooManySubsets { points, size });
     }
+    let images = Images::new(alloc, maps)?;
     let mut found = Vec::new(alloc);
-    find(alloc, maps, points, size, &mut found)?;
+    find(alloc, &images, size, &mut found)?;
     Ok(Orbits { found })
 }
 
@@ -148,9 +151,10 @@ pub fn sized_orbits(alloc: Global, maps: &Maps, sizes: &[u8]) -> Result<Orbits, 
     if sum > 8_000_000 {
         return Err(OrbitError::TooManySummed { points, sum });
     }
+    let images = Images::new(alloc, maps)?;
     let mut found = Vec::new(alloc);
     for size in sizes {
-        find(alloc, maps, points, *size, &mut found)?;
+        find(alloc, &images, *size, &mut found)?;
     }
     found.sort()?;
     Ok(Orbits { found })
@@ -170,50 +174,67 @@ fn summed(points: u8, sizes: &[u8]) -> u128
     sum
 }
 
-// Appends the classes of the blocks of one size, of points below `points`.
-fn find(
-    alloc: Global,
-    maps: &Maps,
-    points: u8,
-    size: u8,
-    found: &mut Vec<Orbit>,
-) -> Result<(), OutOfMemory>
-    requires maps { AreGroup maps.now }
-    requires points { points ≡ point_count maps.now }
-    requires small { points ≤ 128 }
+// Appends the classes of the blocks of one size.
+fn find(alloc: Global, images: &Images, size: u8, found: &mut Vec<Orbit>) -> Result<(), OutOfMemory>
     requires some { 1 ≤ size }
-    requires within { size ≤ point_count maps.now }
-    requires few { binomial_of (point_count maps.now) size ≤ 8000000 }
-    ensures { IfOk result (λ _. map (λ f. (f.block, f.size)) found.new.items ≡ map (λ f. (f.block, f.size)) found.old.items ++ classes_of maps.now (subsets (point_count maps.now) size)) }
+    requires within { size ≤ point_count images.now }
+    requires few { binomial_of (point_count images.now) size ≤ 8000000 }
+    ensures { IfOk result (λ _. map (λ f. (f.block, f.size)) found.new.items ≡ map (λ f. (f.block, f.size)) found.old.items ++ classes_of images.now (subsets (point_count images.now) size)) }
 {
-    let count = binomial(points, size) as usize;
+    let points = images.points();
+    let places = Places::new(alloc, points, size)?;
+    let count = places.count();
     let mut marks = Marks::none(alloc, count)?;
+    let mut block = first(points, size);
     for place in 0..count {
+        block = stepped(points, &block, place);
         if marks.has(place) {
             continue;
         }
-        let block = unrank(points, size, place as u128);
-        mark(&mut marks, maps, &block);
-        found.push(Orbit {
-            block,
-            size: maps.orbit_size(&block),
-        })?;
+        let size = mark(&mut marks, images, &places, &block);
+        found.push(Orbit { block, size })?;
     }
     Ok(())
 }
 
-// Marks the places of a block's images.
-fn mark(marks: &mut Marks, maps: &Maps, block: &Block)
-    requires block { IsBlock (point_count maps.now) block.now }
-    requires some { 1 ≤ length block.now }
-    requires few { binomial_of (point_count maps.now) (length block.now) ≤ 8000000 }
-    requires room { binomial_of (point_count maps.now) (length block.now) ≤ 64 * length marks.old }
-    ensures room { length marks.new ≡ length marks.old }
-    ensures marks { (place : ℕ) → place < binomial_of (point_count maps.now) (length block.now) → is_marked marks.new place
-        ≡ (is_marked marks.old place || are_alike maps.now block.now (slice_index_or (subsets (point_count maps.now) (length block.now)) place [])) }
+// The block at a place: the first, or that after the block at the place before.
+fn stepped(points: u8, block: &Block, place: usize) -> Block
+    requires small { points ≤ 128 }
+    requires some { 0 < length block.now }
+    requires within { IsBlock points block.now }
+    requires before { slice_get (subsets points (length block.now)) (place - 1) ≡ Some block.now }
+    requires below { place < binomial_of points (length block.now) }
+    ensures place { slice_get (subsets points (length block.now)) place ≡ Some result }
+    ensures block { IsBlock points result }
+    ensures size { length result ≡ length block.now }
 {
-    let points = maps.points();
-    for i in 0..maps.count() {
-        marks.put(rank(points, &maps.image_block(i, block)) as usize);
+    if place == 0 {
+        return *block;
     }
+    match next(points, block) {
+        Some(following) => following,
+        None => unreachable!(),
+    }
+}
+
+// Marks the places of a block's images, and tells how many different images it has.
+fn mark(marks: &mut Marks, images: &Images, places: &Places, block: &Block) -> u32
+    requires block { IsBlock (point_count images.now) block.now }
+    requires places { places.now ≡ (point_count images.now, length block.now) }
+    requires room { binomial_of (point_count images.now) (length block.now) ≤ 64 * length marks.old }
+    ensures room { length marks.new ≡ length marks.old }
+    ensures marks { (place : ℕ) → place < binomial_of (point_count images.now) (length block.now) → is_marked marks.new place
+        ≡ (is_marked marks.old place || are_alike images.now block.now (slice_index_or (subsets (point_count images.now) (length block.now)) place [])) }
+    ensures size { result ≡ count (are_alike images.now block.now) (subsets (point_count images.now) (length block.now)) }
+{
+    let points = block.points();
+    let mut fixing = 0;
+    for i in 0..images.count() {
+        let image = images.image_block(i, points.as_slice());
+        if image == *block {
+            fixing += 1;
+        }
+        marks.put(places.rank(&image));
+    }
+    images.count() / fixing
 }

@@ -1,6 +1,6 @@
 // What no clause says: that each call succeeds, and values worked out by hand.
 
-use super::{OrbitError, pair_orbits, sized_orbits, subset_orbits};
+use super::{OrbitError, PairNumbers, pair_orbits, sized_orbits, subset_orbits};
 use df_group::{Elem, Shape, Subgroup};
 use df_maps::Maps;
 use df_subsets::{Block, Point};
@@ -35,6 +35,19 @@ fn lists_pairs_of_seven(rt: HostRuntime) {
     assert!(rt; pairs.len() == 3);
     assert!(rt; pairs.rep(2) == block(&rt, &[Point(0), Point(3)]));
     assert_eq!(rt; pairs.size(0), 7);
+}
+
+// The same differences: 5 is 2 up to its sign, and 4 is 3.
+#[test]
+fn numbers_pairs_of_seven(rt: HostRuntime) {
+    let maps = cyclic(&rt, 7, 6);
+    assert!(rt; maps.points() == 7);
+    let pairs = pair_orbits(rt.alloc(), &maps).expect(&rt, "ample memory");
+    let numbers = PairNumbers::new(rt.alloc(), &maps, &pairs).expect(&rt, "ample memory");
+    assert_eq!(rt; numbers.number_of(Point(0), Point(1)), 0);
+    assert_eq!(rt; numbers.number_of(Point(1), Point(6)), 1);
+    assert_eq!(rt; numbers.number_of(Point(2), Point(6)), 2);
+    assert_eq!(rt; numbers.number_of(Point(5), Point(6)), 0);
 }
 
 // 35 triples: 0 1 2, 0 1 4 and 0 2 4 go to themselves under a map x -> h - x, so that their classes have 7.

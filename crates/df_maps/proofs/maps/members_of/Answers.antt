@@ -1,4 +1,4 @@
-use Rattle.std.proofs.Common.{◌∙◌, ◌∷◌, ◌++◌, [], ap, sym, arith}
+use Rattle.std.proofs.Common.{◌∙◌, sym, arith}
 use Rattle.df_lists.specs.NumberSets.{has_member}
 use Rattle.df_maps.proofs.FilterSteps.{picked, passed, longer}
 use Rattle.df_maps.proofs.maps.members_of.Goals as goal

@@ -1,4 +1,4 @@
-use Rattle.std.proofs.Common.{◌≡◌, ◌*◌, ◌%◌, ◌||◌, ◌∙◌, ap, ap₂, sym, false, true, get_or, set, eqb, length, arith, mod-lt, subst, take}
+use Rattle.std.proofs.Common.{◌≡◌, ◌*◌, ◌%◌, ◌||◌, ◌∙◌, ap, ap₂, sym, false, true, get_or, set, eqb, arith, mod-lt}
 use Rattle.std.proofs.lemmas.List.{take_all}
 use Rattle.std.specs.List.{list_any}
 use Rattle.df_maps.proofs.MarkSteps.{mark_more, or_none}

@@ -1,7 +1,6 @@
-use Rattle.std.proofs.Common.{◌≡◌, ◌*◌, ◌%◌, ◌||◌, ◌<◌, ℕ, zero, suc, ◌+◌, ◌∙◌, ap, sym, false, true, get_or, set, eqb, arith, subst, eq-eqb, eqb-true, ⊎_elim, refl, inl, inr, mod-lt, [], ◌∷◌}
-use Rattle.std.proofs.lemmas.Bool.{or_left, or_right, or_cases, cases_lt, both_ways, false≢true}
+use Rattle.std.proofs.Common.{◌≡◌, ◌%◌, ℕ, suc, ◌+◌, ◌∙◌, ap, sym, false, true, get_or, set, eqb, arith, subst, eq-eqb, eqb-true, ⊎_elim, mod-lt}
+use Rattle.std.proofs.lemmas.Bool.{or_right, or_cases, both_ways}
 use Rattle.df_lists.specs.Membership.{In}
-use Rattle.df_lists.specs.NumberSets.{IsSet}
 use Rattle.df_maps.specs.Products.{products, products_within}
 use Rattle.df_acting.proofs.ImageLaws.{In-set}
 use Rattle.df_maps.proofs.MarkSteps.{set_mark}

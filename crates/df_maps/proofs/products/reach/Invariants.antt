@@ -1,4 +1,4 @@
-use Rattle.std.proofs.Common.{◌≡◌, ◌≤◌, ℕ, true, false, length, slice_index_or}
+use Rattle.std.proofs.Common.{◌≡◌, ℕ, true, false, slice_index_or}
 use Rattle.df_lists.specs.Membership.{In}
 use Rattle.df_maps.specs.Products.{products, products_within}
 use Rattle.df_maps.proofs.products.reach.Given as goal

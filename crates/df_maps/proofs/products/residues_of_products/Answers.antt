@@ -1,4 +1,4 @@
-use Rattle.std.proofs.Common.{◌≡◌, ◌∙◌, ◌∷◌, ◌++◌, [], ℕ, Bool, ap, sym, true, false, get_or, arith, filter, refl, zero, suc, replicate}
+use Rattle.std.proofs.Common.{◌≡◌, ◌∙◌, ℕ, ap, sym, false, get_or, arith, filter, refl, zero, suc, replicate}
 use Rattle.std.specs.List.{range_with_len}
 use Rattle.df_lists.specs.NumberSets.{has_member}
 use Rattle.df_maps.specs.Products.{products}

@@ -1,4 +1,4 @@
-use Rattle.std.proofs.Common.{◌≡◌, ◌≤◌, ℕ, false, filter, length, slice_index_or}
+use Rattle.std.proofs.Common.{◌≡◌, ◌≤◌, false, filter, length, slice_index_or}
 use Rattle.std.specs.List.{range_with_len}
 use Rattle.df_maps.proofs.products.residues_of_products.Given as goal
 

@@ -1,4 +1,4 @@
-use Rattle.std.proofs.Common.{◌≡◌, ◌<◌, ◌≤◌, ◌∙◌, ◌+◌, ◌++◌, ◌∷◌, ℕ, List, Bool, true, false, [], map, ap, ap₂, sym, arith, length, take, get_or, append-nil, append_assoc, refl, Ordering, Less, Equal, Greater}
+use Rattle.std.proofs.Common.{◌≡◌, ◌<◌, ◌≤◌, ◌∙◌, ◌+◌, ◌++◌, ◌∷◌, ℕ, List, true, false, [], map, ap, ap₂, sym, subst, arith, length, take, get_or, append-nil, append_assoc, refl, Ordering, Less, Equal, Greater}
 use Rattle.std.proofs.lemmas.Bool.{both_ways, false_from_ne_true}
 use Rattle.std.proofs.lemmas.List.{take_all, take_more, get_or-map, length-map}
 use Rattle.std.specs.List.{flat_map, sum_by}
@@ -10,7 +10,6 @@ use Rattle.df_subsets.proofs.BlockOrders.{before_is}
 use Rattle.df_maps.specs.FullMaps.{point_count}
 use Rattle.df_orbits.specs.OrbitClasses.{classes_of}
 use Rattle.df_orbits.specs.declared.orbits.Orbit.{Orbit}
-use Rattle.df_orbits.proofs.OrbitLists.{shown}
 use Rattle.df_orbits.proofs.SizedClasses.{sized_classes}
 use Rattle.df_orbits.proofs.SizeSums.{sum_more, sum_part, rising_distinct}
 use Rattle.df_orbits.proofs.orbits.sized_orbits.Goals as goal
@@ -35,13 +34,15 @@ find-requires-clause-few c =
     let next = sum_more (binomial v) sizes c.loop-size.size-index c.loop-size-test.true in
     let part = sum_part (binomial v) sizes (c.loop-size.size-index + 1) in
     let few = c.if-sum-gt8000000.false in
-    omega (arith, sum, next, part, few)
+    subst (λ N. binomial (point_count N) (get_or sizes c.loop-size.size-index 0) ≤ 8000000) (sym c.in_ok-images.ensures) (omega (arith, sum, next, part, few))
 
 pub loop-size-preserved : goal.loop-size-preserved
 loop-size-preserved c =
     let M = c.args.maps.now in
     let f = λ (k : ℕ). classes_of M (subsets (point_count M) k) in
-    c.in_ok-find.ensures ∙ ap (λ l. l ++ f (get_or c.args.sizes.now c.loop-size.size-index 0)) c.loop-size.invariant ∙ sym (flat_more f c.args.sizes.now c.loop-size.size-index 0 c.loop-size-test.true)
+    c.in_ok-find.ensures
+    ∙ ap (λ N. map {A = Orbit} {B = List ℕ × ℕ} (λ f. (f.block, f.size)) c.loop-size.found.items ++ classes_of N (subsets (point_count N) (get_or c.args.sizes.now c.loop-size.size-index 0))) c.in_ok-images.ensures
+    ∙ ap (λ l. l ++ f (get_or c.args.sizes.now c.loop-size.size-index 0)) c.loop-size.invariant ∙ sym (flat_more f c.args.sizes.now c.loop-size.size-index 0 c.loop-size-test.true)
 
 pub returns-clause-sized : goal.returns-clause-sized
 returns-clause-sized c =

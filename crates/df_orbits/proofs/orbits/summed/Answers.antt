@@ -1,6 +1,4 @@
-use Rattle.std.proofs.Common.{◌≡◌, ◌<◌, ◌≤◌, ◌∙◌, ◌+◌, ◌^◌, ℕ, ap, ap₂, sym, arith, length, take, get_or}
-use Rattle.std.proofs.lemmas.List.{take_all}
-use Rattle.std.specs.List.{sum_by}
+use Rattle.std.proofs.Common.{◌≤◌, ◌∙◌, ◌+◌, ap₂, sym, arith}
 use Rattle.df_subsets.specs.Subsets.{binomial}
 use Rattle.df_maps.proofs.MapsFacts.{all_members}
 use Rattle.df_orbits.proofs.SizeSums.{sum_more, sum_part, sums_fit, rising_distinct}

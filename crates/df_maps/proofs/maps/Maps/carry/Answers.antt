@@ -1,1 +1,0 @@
-use Rattle.df_maps.proofs.maps.Maps.carry.Goals as goal

@@ -1,4 +1,4 @@
-use Rattle.std.proofs.Common.{◌≡◌, ◌<◌, ◌∙◌, ap, ap₂, sym, subst, ◌||◌, eqb, ℕ, take, length, get_or, arith}
+use Rattle.std.proofs.Common.{◌≡◌, ◌<◌, ◌∙◌, ap, ap₂, sym, subst, ◌||◌, eqb, ℕ, length, get_or, arith}
 use Rattle.std.proofs.lemmas.List.{take_all}
 use Rattle.std.specs.List.{list_any}
 use Rattle.df_lists.specs.NumberSets.{has_member}
@@ -6,7 +6,7 @@ use Rattle.df_subsets.specs.Blocks.{IsBlock}
 use Rattle.df_subsets.proofs.BlockBits.{point_below}
 use Rattle.df_subsets.proofs.BlockLaws.{block_is_set}
 use Rattle.df_acting.proofs.ImageLaws.{length-image}
-use Rattle.df_maps.specs.FullMaps.{point_count, carried, map_number, image, full_maps}
+use Rattle.df_maps.specs.FullMaps.{point_count, carried, image, full_maps}
 use Rattle.df_maps.proofs.MarkSteps.{any_take_more}
 use Rattle.df_maps.proofs.ImageSteps.{image_done, or_comm}
 use Rattle.df_maps.proofs.maps.Maps.image_block.Goals as goal

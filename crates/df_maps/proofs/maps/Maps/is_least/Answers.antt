@@ -1,4 +1,4 @@
-use Rattle.std.proofs.Common.{◌≡◌, ◌∙◌, ℕ, List, Bool, not, true, false, ap, sym, subst, length, map, arith}
+use Rattle.std.proofs.Common.{◌≡◌, ◌∙◌, ℕ, List, not, ap, sym, length, arith}
 use Rattle.std.specs.List.{list_all, range_with_len}
 use Rattle.df_subsets.specs.Blocks.{before}
 use Rattle.df_subsets.proofs.BlockOrders.{before_is}

@@ -1,4 +1,4 @@
-use Rattle.std.proofs.Common.{◌≡◌, ℕ, true, not}
+use Rattle.std.proofs.Common.{◌≡◌, true, not}
 use Rattle.std.specs.List.{list_all, range_with_len}
 use Rattle.df_subsets.specs.Blocks.{before}
 use Rattle.df_maps.specs.FullMaps.{image, map_number}

@@ -1,4 +1,4 @@
-use Rattle.std.proofs.Common.{◌≡◌, ◌∙◌, ◌||◌, ap, sym, eqb, arith, length, ◌<◌, ◌/◌}
+use Rattle.std.proofs.Common.{◌∙◌, ◌||◌, ap, eqb, arith, length, ◌<◌, ◌/◌}
 use Rattle.std.proofs.lemmas.List.{get_or_read}
 use Rattle.df_orbits.specs.MarkedPlaces.{is_marked}
 use Rattle.df_orbits.proofs.MarkLaws.{mark_put}

@@ -1,11 +1,11 @@
-use Rattle.std.proofs.Common.{◌≡◌, ◌<◌, ◌≤◌, ◌+◌, ◌-◌, ◌/◌, ◌∙◌, ℕ, [], true, false, length, get_or, map, ap, sym, subst, arith, slice_get, Some}
+use Rattle.std.proofs.Common.{◌≡◌, ◌<◌, ◌≤◌, ◌+◌, ◌-◌, ◌/◌, ◌∙◌, [], true, false, length, get_or, ap, sym, arith, slice_get}
 use Rattle.std.proofs.lemmas.List.{length-map}
 use Rattle.std.proofs.lemmas.Option.{get_or_from_slice_get}
 use Rattle.df_subsets.specs.Blocks.{before}
 use Rattle.df_subsets.proofs.BlockLaws.{block_is_set}
 use Rattle.df_subsets.proofs.BlockOrders.{before_is}
 use Rattle.df_maps.specs.FullMaps.{point_count}
-use Rattle.df_orbits.specs.OrbitClasses.{first_members, earliest_alike, are_alike}
+use Rattle.df_orbits.specs.OrbitClasses.{first_members}
 use Rattle.df_orbits.proofs.OrbitLists.{shown, member_at}
 use Rattle.df_orbits.proofs.ClassNumbers.{search_ends, listed_sorted, half_below, half_above}
 use Rattle.df_orbits.proofs.orbits.Orbits.number_of.Goals as goal

@@ -1,4 +1,4 @@
-use Rattle.std.proofs.Common.{◌≡◌, ◌<◌, ◌∙◌, length, map, ap, sym, arith, slice_get}
+use Rattle.std.proofs.Common.{◌<◌, ◌∙◌, length, ap, sym, arith, slice_get}
 use Rattle.std.proofs.lemmas.List.{length-map}
 use Rattle.df_orbits.specs.OrbitClasses.{first_members}
 use Rattle.df_orbits.proofs.OrbitLists.{shown, member_at}

@@ -1,0 +1,10 @@
+use Rattle.std.proofs.Common.{◌≡◌, ◌*◌, length}
+use Rattle.df_maps.specs.FullMaps.{point_count}
+use Rattle.df_orbits.proofs.PairNumbering.{AreWritten}
+use Rattle.df_orbits.proofs.numbers.PairNumbers.new.Given as goal
+
+abbrev pub invariant-loop-i : goal.invariant-loop-i
+invariant-loop-i l = record {
+  long : length l.numbers.items ≡ point_count l.maps * point_count l.maps;
+  written : AreWritten l.maps l.numbers.items l.i;
+}

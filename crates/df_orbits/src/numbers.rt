@@ -1,0 +1,85 @@
+// The numbers of the classes of pairs of points, in a table.
+ghost use Rattle.std.specs.Prelude.{◌≡◌, ◌<◌, ◌≤◌, ◌*◌, ◌+◌, ◌==◌, ◌∷◌, [], ℕ, List, length, slice_get, slice_index, Some, IfOk, if◌then◌else◌};
+ghost use Rattle.df_subsets.specs.Blocks.{IsBlock};
+ghost use Rattle.df_maps.specs.FullMaps.{point_count};
+ghost use Rattle.df_maps.specs.Laws.{AreGroup};
+ghost use Rattle.df_orbits.specs.OrbitClasses.{are_alike, pair_classes, first_members, earliest_alike};
+
+use crate::OutOfMemory;
+use crate::images::Images;
+use crate::orbits::Orbits;
+use df_maps::Maps;
+use df_subsets::{Block, Point};
+use std::alloc::Global;
+use std::marker::Model;
+
+/// The numbers of the classes of all pairs of points under a group of maps, each by one look, and seen as these maps.
+#[derive(Drop)]
+pub struct PairNumbers {
+    maps: Maps,
+    points: u8,
+    numbers: Vec<u32>,
+}
+
+impl Model for PairNumbers {
+    ghost use Rattle.df_maps.specs.FullMaps.{MapGroup};
+
+    ghost Value = { MapGroup };
+
+    ghost use Rattle.df_orbits.specs.LookupTables.{AreNumbered};
+
+    ghost view = { λ a. a.maps };
+
+    ghost invariant = { λ a. AreNumbered a.maps a.points a.numbers.items };
+}
+
+impl PairNumbers {
+    /// The numbers of the classes `pairs`, which `pair_orbits` gave for these maps. The table has at most 64 KiB.
+    pub fn new(alloc: Global, maps: &Maps, pairs: &Orbits) -> Result<PairNumbers, OutOfMemory>
+        requires classes { pairs.now ≡ pair_classes maps.now }
+        ensures { IfOk result (λ numbers. numbers ≡ maps.now) }
+    {
+        let images = Images::new(alloc, maps)?;
+        let points = maps.points();
+        let width = usize::from(points);
+        let mut numbers = vec![in alloc; 0; width * width]?;
+        for i in 0..pairs.len() {
+            number_class(&mut numbers, &images, &pairs.rep(i), i as u32);
+        }
+        Ok(PairNumbers {
+            maps: maps.copied(),
+            points,
+            numbers,
+        })
+    }
+
+    /// The number of the class of the pair of p and q among the classes of pairs, from 0. The points lie below the number of points, p before q.
+    pub fn number_of(&self, p: Point, q: Point) -> usize
+        requires order { p < q }
+        requires points { q < point_count self.now }
+        ensures within { result < length (pair_classes self.now) }
+        ensures earliest { slice_get (first_members (pair_classes self.now)) result ≡ Some (earliest_alike self.now (p ∷ q ∷ [])) }
+        ensures class { (i : ℕ) (b : List ℕ) → slice_get (first_members (pair_classes self.now)) i ≡ Some b → are_alike self.now (p ∷ q ∷ []) b ≡ (i == result) }
+    {
+        self.numbers[usize::from(p.0) * usize::from(self.points) + usize::from(q.0)] as usize
+    }
+}
+
+// Writes a number for each image of a pair.
+fn number_class(numbers: &mut [u32], images: &Images, pair: &Block, number: u32)
+    requires long { length numbers.old ≡ point_count images.now * point_count images.now }
+    requires pair { IsBlock (point_count images.now) pair.now }
+    requires two { length pair.now ≡ 2 }
+    ensures long { length numbers.new ≡ length numbers.old }
+    ensures written { (p q : ℕ) → p < q → q < point_count images.now → slice_index numbers.new (p * point_count images.now + q)
+        ≡ (if are_alike images.now pair.now (p ∷ q ∷ []) then number else slice_index numbers.old (p * point_count images.now + q)) }
+{
+    let points = pair.points();
+    let width = usize::from(images.points());
+    for i in 0..images.count() {
+        let a = usize::from(images.image_point(i, points[0]).0);
+        let b = usize::from(images.image_point(i, points[1]).0);
+        numbers[a * width + b] = number;
+        numbers[b * width + a] = number;
+    }
+}
