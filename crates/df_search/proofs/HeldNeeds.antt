@@ -1,21 +1,19 @@
 -- What the rows have at a path that is held.
 use Rattle.std.proofs.Common.{◌≡◌, ℕ, zero, suc, ◌+◌, ◌-◌, ◌<◌, ◌≤◌, Bool, true, false, List, [], ◌∷◌, length, get_or, take, Option, Some, None, refl, sym, ap, ◌∙◌, arith, inl, inr}
-use Rattle.std.specs.Prelude.{ℤ, pos, ◌-ℤ◌, max, find, ◌*◌, ◌/◌, ◌%◌, not, ◌&&◌, nat_lt, drop}
+use Rattle.std.specs.Prelude.{pos, ◌-ℤ◌, find, ◌*◌, ◌/◌, ◌%◌, not, nat_lt, drop}
 use Rattle.std.specs.List.{range_with_len}
-use Rattle.std.proofs.lemmas.Bool.{cases_eq, cases_Bool, lt-ltb, le-ltb, eq-eqb, ne_eqb, ltb-false, and_from, and_right, and_left}
+use Rattle.std.proofs.lemmas.Bool.{cases_eq, cases_Bool, lt-ltb, le-ltb, eq-eqb, ne_eqb, and_from, and_right, and_left}
 use Rattle.std.proofs.Math.Nat.{mod-add-div, add-mul-mod_self_left, mul-mod_right}
 use Rattle.df_walk.specs.declared.Cell.{Cell}
 use Rattle.df_walk.specs.Systems.{System, entries, target, cells, widest}
-use Rattle.df_walk.specs.Assignments.{Decisions, common_divisor, taken, divisor, leaves_rest, need, is_over, is_settled, has_residue, least_row, least_over, least_under, least_residue}
+use Rattle.df_walk.specs.Assignments.{Decisions, common_divisor, taken, divisor, leaves_rest, need, is_settled, has_residue, least_row, least_over, least_under, least_residue}
 use Rattle.df_walk.specs.declared.Rules.{Rules}
-use Rattle.df_walk.specs.declared.Entry.{Entry}
 use Rattle.df_walk.specs.declared.Entry.TheVariants as entry
 use Rattle.df_walk.specs.Walks.{decided, entry_at, entry_from}
-use Rattle.df_walk.specs.Remains.{padded}
 use Rattle.df_walk.proofs.PaddedPaths.{padded_over, padded_under, padded_settled, taken-open}
 use Rattle.df_walk.proofs.DecisionLaws.{open_values-decided}
 use Rattle.df_system.specs.Trails.{Assigned}
-use Rattle.df_search.specs.HeldPaths.{StandsAt, IsHeld}
+use Rattle.df_search.specs.HeldPaths.{IsHeld}
 use Rattle.df_search.proofs.StandingPaths.{held_length}
 
 pub held_over : {s : System} {a : Assigned} {values : List Bool} {count : ℕ} → IsHeld s a values count → least_over a.system a.decisions ≡ least_over s (decided (take count values))

@@ -1,5 +1,8 @@
+pub mod IncreasingLists
+pub mod DivisorStarts
 pub mod StandingPaths
 pub mod HeldNeeds
 pub mod SearchSteps
 pub mod PassedSteps
+pub mod ToldAnswers
 pub mod FollowedPaths

@@ -1,18 +1,33 @@
 -- Entries that a search passes.
-use Rattle.std.proofs.Common.{◌≡◌, ℕ, suc, zero, ◌+◌, ◌-◌, ◌*◌, ◌≤◌, ◌<◌, Bool, List, [], ◌∷◌, ◌++◌, length, Some, refl, sym, ap, ◌∙◌, subst, arith, length-append}
+use Rattle.std.proofs.Common.{◌≡◌, ℕ, suc, zero, ◌+◌, ◌*◌, ◌≤◌, ◌<◌, Bool, List, [], ◌∷◌, ◌++◌, length, Some, refl, sym, ap, ◌∙◌, arith, length-append}
 use Rattle.std.proofs.lemmas.List.{append_assoc}
 use Rattle.std.proofs.lemmas.List.Elements.{filter_map-append}
 use Rattle.df_walk.specs.declared.Entry.TheVariants as entry
-use Rattle.df_walk.specs.Systems.{System}
 use Rattle.df_walk.specs.Solutions.{yes_vector}
 use Rattle.df_walk.specs.Walks.{Step, decided, solution_of, solutions_in, node_of, nodes_in}
 use Rattle.df_search.specs.declared.Event.{Event}
 use Rattle.df_search.specs.declared.Event.TheVariants.{Solution, Spent, Finished}
-use Rattle.df_search.specs.Searches.{Searching, AdvancesBy, Advances, Passes, Finds, Stops, Ends, answered, solved, stopped, ended}
+use Rattle.df_search.specs.Searches.{Searching, StandsBefore, solutions_left, nodes_left, AdvancesBy, Advances, Passes, Finds, Stops, Ends, answered, stopped}
+
+-- what was passed and what remains are what remained
+pub passes_of : {q new : Searching} {budget after : ℕ} {found : List (List Bool)} (passed : List Step) → q.left ≡ passed ++ new.left → solutions_in q.system passed ≡ found → budget ≡ length (nodes_in passed) + after → new.system ≡ q.system → new.rules ≡ q.rules → Passes q budget new after found
+passes_of {q} {new} {budget} {after} {found} passed joined solutions nodes system rules =
+    let split : solutions_left q ≡ found ++ solutions_in q.system new.left = ap (solutions_in q.system) joined ∙ filter_map-append (solution_of q.system) passed new.left ∙ ap (λ l. l ++ solutions_in q.system new.left) solutions in
+    let count : nodes_left q ≡ length (nodes_in passed) + nodes_left new = ap (λ l. length (nodes_in l)) joined ∙ ap length (filter_map-append node_of passed new.left) ∙ length-append (nodes_in passed) (nodes_in new.left) in
+    record {
+      passed = passed;
+      joined = joined;
+      solutions = solutions;
+      nodes = nodes;
+      solutions_remain = split ∙ ap (λ s. found ++ solutions_in s new.left) (sym system);
+      nodes_remain = omega (arith, count, nodes);
+      system = system;
+      rules = rules;
+    }
 
 -- nothing is passed yet
 pub none_passed : (q : Searching) (budget : ℕ) → Passes q budget q budget []
-none_passed q budget = record { passed = []; joined = refl; solutions = refl; nodes = omega arith; system = refl; rules = refl }
+none_passed q budget = passes_of [] refl refl (omega arith) refl refl
 
 -- how many entries were passed
 pub passed_count : {q new : Searching} {budget after : ℕ} {found : List (List Bool)} → Passes q budget new after found → length new.left ≤ length q.left
@@ -21,14 +36,8 @@ passed_count {q} {new} h = let e = ap length h.joined in omega (arith, length-ap
 -- one more entry
 pass_one : {q mid : Searching} {budget b : ℕ} (x : Step) (new : Searching) (after : ℕ) (found : List (List Bool)) → Passes q budget mid b [] → mid.left ≡ x ∷ new.left → new.system ≡ mid.system → new.rules ≡ mid.rules → solutions_in q.system (x ∷ []) ≡ found → b ≡ length (nodes_in (x ∷ [])) + after → Passes q budget new after found
 pass_one {q} {mid} {budget} {b} x new after found h is system rules found_is nodes =
-    record {
-      passed = h.passed ++ x ∷ [];
-      joined = h.joined ∙ ap (λ l. h.passed ++ l) is ∙ sym (append_assoc h.passed (x ∷ []) new.left);
-      solutions = filter_map-append (solution_of q.system) h.passed (x ∷ []) ∙ rw (h.solutions, found_is) refl;
-      nodes = let e = ap length (filter_map-append node_of h.passed (x ∷ [])) in omega (arith, h.nodes, length-append (nodes_in h.passed) (nodes_in (x ∷ [])));
-      system = system ∙ h.system;
-      rules = rules ∙ h.rules;
-    }
+    let e = ap length (filter_map-append node_of h.passed (x ∷ [])) in
+    passes_of (h.passed ++ x ∷ []) (h.joined ∙ ap (λ l. h.passed ++ l) is ∙ sym (append_assoc h.passed (x ∷ []) new.left)) (filter_map-append (solution_of q.system) h.passed (x ∷ []) ∙ rw (h.solutions, found_is) refl) (omega (arith, h.nodes, length-append (nodes_in h.passed) (nodes_in (x ∷ [])))) (system ∙ h.system) (rules ∙ h.rules)
 
 -- an entry that is no solution was passed, and what is left is shorter
 pub record Skips (q : Searching) (budget : ℕ) (mid new : Searching) (after : ℕ) : Type 0 where
@@ -88,25 +97,18 @@ finds_next {q} {budget} mid new b after h a = go mid.left b refl h a
     go ((p, entry.Branch c) ∷ more) (suc b) is h a = absurd (let e = a.0 in cc)
 
 -- the search stays
-stop_one : {q mid : Searching} {budget b : ℕ} (x : Step) (new : Searching) (more : List Step) (after : ℕ) → Passes q budget mid b [] → mid.left ≡ x ∷ more → new ≡ stopped mid x.0 → b ≡ 0 → after ≡ 0 → 0 < length (nodes_in (x ∷ more)) → Stops q budget new after
-stop_one {q} {mid} {budget} {b} x new more after h is new_is none spent some =
+stop_one : {q mid : Searching} {budget b : ℕ} (x : Step) (new : Searching) (more : List Step) (after : ℕ) → Passes q budget mid b [] → mid.left ≡ x ∷ more → new ≡ stopped mid x.0 → b ≡ 0 → after ≡ 0 → 0 < length (nodes_in (x ∷ more)) → StandsBefore new new.path → Stops q budget new after
+stop_one {q} {mid} {budget} {b} x new more after h is new_is none spent some stands =
     let left : new.left ≡ mid.left = ap (λ n. n.left) new_is in
     record {
-      passes = record {
-        passed = h.passed;
-        joined = h.joined ∙ ap (λ l. h.passed ++ l) (sym left);
-        solutions = h.solutions;
-        nodes = omega (arith, h.nodes);
-        system = ap (λ n. n.system) new_is ∙ h.system;
-        rules = ap (λ n. n.rules) new_is ∙ h.rules;
-      };
+      passes = passes_of h.passed (h.joined ∙ ap (λ l. h.passed ++ l) (sym left)) h.solutions (omega (arith, h.nodes)) (ap (λ n. n.system) new_is ∙ h.system) (ap (λ n. n.rules) new_is ∙ h.rules);
       spent = spent;
-      place = rw new_is refl;
+      stands = stands;
       more = rw (left ∙ is) some;
     }
 
-pub stops : {q : Searching} {budget : ℕ} (mid new : Searching) (b after : ℕ) → Passes q budget mid b [] → Advances mid b Spent new after → Stops q budget new after
-stops {q} {budget} mid new b after h a = go mid.left b refl h a
+pub stops : {q : Searching} {budget : ℕ} (mid new : Searching) (b after : ℕ) → Passes q budget mid b [] → Advances mid b Spent new after → StandsBefore new new.path → Stops q budget new after
+stops {q} {budget} mid new b after h a stands = go mid.left b refl h a
   where
     go : (l : List Step) (b : ℕ) → mid.left ≡ l → Passes q budget mid b [] → AdvancesBy mid l b Spent new after → Stops q budget new after
     go [] b is h a = absurd (let e = a.0 in cc)
@@ -114,9 +116,9 @@ stops {q} {budget} mid new b after h a = go mid.left b refl h a
     go ((p, entry.Under r) ∷ more) b is h a = absurd (let e = a.0 in cc)
     go ((p, entry.Residue r m) ∷ more) b is h a = absurd (let e = a.0 in cc)
     go ((p, entry.Cut ws) ∷ more) b is h a = absurd a
-    go ((p, entry.Settled) ∷ more) zero is h a = stop_one (p, entry.Settled) new more after h is a.1 refl a.2 (omega arith)
+    go ((p, entry.Settled) ∷ more) zero is h a = stop_one (p, entry.Settled) new more after h is a.1 refl a.2 (omega arith) stands
     go ((p, entry.Settled) ∷ more) (suc b) is h a = absurd (let e = a.0 in cc)
-    go ((p, entry.Branch c) ∷ more) zero is h a = stop_one (p, entry.Branch c) new more after h is a.1 refl a.2 (omega arith)
+    go ((p, entry.Branch c) ∷ more) zero is h a = stop_one (p, entry.Branch c) new more after h is a.1 refl a.2 (omega arith) stands
     go ((p, entry.Branch c) ∷ more) (suc b) is h a = absurd (let e = a.0 in cc)
 
 -- the length of what is left stays, where the search does
@@ -142,14 +144,7 @@ ends {q} {budget} mid new b after h a = go mid.left b refl h a
     go [] b is h a =
         let left : new.left ≡ [] = ap (λ n. n.left) a.1 in (
           record {
-            passes = record {
-              passed = h.passed;
-              joined = h.joined ∙ ap (λ l. h.passed ++ l) (is ∙ sym left);
-              solutions = h.solutions;
-              nodes = omega (arith, h.nodes, a.2);
-              system = ap (λ n. n.system) a.1 ∙ h.system;
-              rules = ap (λ n. n.rules) a.1 ∙ h.rules;
-            };
+            passes = passes_of h.passed (h.joined ∙ ap (λ l. h.passed ++ l) (is ∙ sym left)) h.solutions (omega (arith, h.nodes, a.2)) (ap (λ n. n.system) a.1 ∙ h.system) (ap (λ n. n.rules) a.1 ∙ h.rules);
             end = left;
             path = ap (λ n. n.path) a.1;
           },

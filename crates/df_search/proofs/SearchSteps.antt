@@ -1,6 +1,6 @@
 -- The entry that is answered where a search stands, and what is left then.
-use Rattle.std.proofs.Common.{◌≡◌, ℕ, suc, zero, ◌+◌, ◌-◌, ◌<◌, ◌≤◌, Bool, true, false, List, [], ◌∷◌, ◌++◌, length, Option, Some, None, refl, sym, ap, ◌∙◌, subst, arith, inl, inr}
-use Rattle.std.specs.Prelude.{IsSome, ◌⊎◌, replicate}
+use Rattle.std.proofs.Common.{◌≡◌, ℕ, suc, zero, ◌-◌, ◌≤◌, Bool, true, false, List, [], ◌∷◌, ◌++◌, length, Option, Some, None, refl, sym, ap, ◌∙◌, subst, arith, inl, inr}
+use Rattle.std.specs.Prelude.{IsSome, replicate}
 use Rattle.std.proofs.lemmas.List.{append_assoc, append-nil}
 use Rattle.std.proofs.lemmas.Bool.{false≢true, true≢false}
 use Rattle.df_walk.specs.declared.Rules.{Rules}
@@ -18,7 +18,7 @@ use Rattle.df_search.specs.declared.search.State.TheVariants.{Here, Below, Past,
 use Rattle.df_search.specs.declared.held_path.Verdict.{Verdict}
 use Rattle.df_search.specs.declared.held_path.Verdict.TheVariants as verdict
 use Rattle.df_search.specs.HeldPaths.{Held, TurnsTo, as_entry}
-use Rattle.df_search.specs.Searches.{Searching, left_of, place_of, chosen_of, search_of, next_path_of, Answers, AdvancesBy, Advances, answered, solved, stopped, IsReady, IsFit, IsOnWalk}
+use Rattle.df_search.specs.Searches.{Searching, left_of, chosen_of, search_of, next_path_of, Answers, AdvancesBy, Advances, stopped, IsReady, IsFit, IsOnWalk}
 
 -- what is left goes on at the next path
 left_is : (st : State) (rules : Rules) (s : System) (p : List Bool) → left_of st rules s p ≡ walk_on_from rules s [] (next_path_of st p)
@@ -27,14 +27,6 @@ left_is Below rules s p = refl
 left_is Past rules s p = later_walk-turned rules s [] p
 left_is Solved rules s p = later_walk-turned rules s [] p
 left_is Done rules s p = refl
-
--- where the search stands at a place, the walk from there on is left
-pub left_at_place : (st : State) (rules : Rules) (s : System) (p : List Bool) → IsSome (place_of st p) → left_of st rules s p ≡ walk_on rules s p
-left_at_place Here rules s p h = refl
-left_at_place Below rules s p h = absurd (let e = h in cc)
-left_at_place Past rules s p h = absurd (let e = h in cc)
-left_at_place Solved rules s p h = absurd (let e = h in cc)
-left_at_place Done rules s p h = absurd (let e = h in cc)
 
 -- the walk comes by the path that is one column longer, where it branches
 visited_more : (rules : Rules) (s : System) (before p : List Bool) (b : Bool) → IsVisitedFrom rules s before p → is_branch (entry_at rules s (before ++ p)) ≡ true → IsVisitedFrom rules s before (p ++ b ∷ [])

@@ -1,10 +1,10 @@
 -- A path that is held, and grows or loses a column.
-use Rattle.std.proofs.Common.{◌≡◌, ℕ, suc, ◌+◌, ◌-◌, ◌<◌, ◌≤◌, Bool, true, false, List, [], ◌∷◌, ◌++◌, length, get_or, set, take, Some, None, slice_get, refl, sym, ap, ◌∙◌, arith, add-one, length-append}
+use Rattle.std.proofs.Common.{◌≡◌, ℕ, suc, ◌+◌, ◌-◌, ◌<◌, ◌≤◌, Bool, false, List, [], ◌∷◌, ◌++◌, length, get_or, set, take, Some, None, slice_get, refl, sym, ap, ◌∙◌, arith, add-one, length-append}
 use Rattle.std.specs.Prelude.{replicate}
 use Rattle.std.proofs.lemmas.List.{append_assoc, set_at, take_more, length-take-le, length-replicate}
 use Rattle.std.proofs.Math.Seq.{take-append_seam}
 use Rattle.df_walk.specs.Systems.{System, IsSystem}
-use Rattle.df_walk.specs.Remains.{padded, down_from, turned}
+use Rattle.df_walk.specs.Remains.{padded, down_from}
 use Rattle.df_walk.proofs.PaddedPaths.{padded_push, padded_pop, padded_free}
 use Rattle.df_system.specs.Trails.{Assigned}
 use Rattle.df_search.specs.HeldPaths.{StandsAt, IsHeld}

@@ -5,6 +5,7 @@ use Rattle.df_walk.specs.declared.Entry.TheVariants as entry
 use Rattle.df_walk.specs.Systems.{System, IsSystem}
 use Rattle.df_walk.specs.Remains.{padded, down_from}
 use Rattle.df_system.specs.Trails.{Assigned}
+use Rattle.df_search.specs.Divisors.{HaveNoDivisors}
 use Rattle.df_search.specs.declared.held_path.Verdict.{Verdict}
 use Rattle.df_search.specs.declared.held_path.Verdict.TheVariants.{Over, Under, Residue, Settled, Branch}
 
@@ -27,6 +28,11 @@ pub record IsHeld (s : System) (a : Assigned) (values : List Bool) (count : ℕ)
   pub few : length s.columns ≤ 16777216
   pub short : count ≤ length values
   pub at : StandsAt (length s.columns) a values (take count values)
+
+-- and from no column before the start has a row a divisor above 1
+pub record IsHeldFrom (start : ℕ) (s : System) (a : Assigned) (values : List Bool) (count : ℕ) : Type 0 where
+  pub held : IsHeld s a values count
+  pub no_divisors : HaveNoDivisors s start
 
 -- the path is one turned, or there is none and the path is empty
 abbrev pub TurnsTo : Option (List Bool) → Bool → List Bool → Type 0

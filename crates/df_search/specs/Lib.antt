@@ -1,3 +1,4 @@
+pub mod Divisors
 pub mod HeldPaths
 pub mod Searches
 pub mod Resumptions

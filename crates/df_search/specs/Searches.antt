@@ -1,11 +1,12 @@
 -- A search: what remains of the walk, and where the search stands.
-use Rattle.std.specs.Prelude.{◌≡◌, ◌≤◌, ◌<◌, ℕ, zero, suc, ◌+◌, ◌-◌, ◌*◌, ◌⊎◌, Bool, true, false, List, [], ◌∷◌, ◌++◌, length, replicate, Option, Some, None}
+use Rattle.std.specs.Prelude.{◌≡◌, ◌<◌, ℕ, zero, suc, ◌+◌, ◌-◌, ◌⊎◌, Bool, true, List, [], ◌∷◌, ◌++◌, length, Option, Some, None}
 use Rattle.df_walk.specs.declared.Rules.{Rules}
 use Rattle.df_walk.specs.declared.Entry.{Entry}
 use Rattle.df_walk.specs.declared.Entry.TheVariants as entry
-use Rattle.df_walk.specs.Systems.{System, widest}
+use Rattle.df_walk.specs.Systems.{System}
 use Rattle.df_walk.specs.Solutions.{yes_vector}
-use Rattle.df_walk.specs.Walks.{Step, decided, entry_at, is_branch, walk, solutions_in, nodes_in}
+use Rattle.df_walk.specs.Walks.{Step, decided, entry_at, is_branch, solutions_in, nodes_in}
+use Rattle.df_walk.specs.Paths.{rest, load}
 use Rattle.df_walk.specs.Remains.{later_walk, walk_on, IsVisited, turned}
 use Rattle.df_search.specs.declared.Event.{Event}
 use Rattle.df_search.specs.declared.Event.TheVariants.{Branch, Over, Under, Residue, Solution, Spent, Finished}
@@ -32,6 +33,19 @@ pub record Searching : Type 0 where
 -- a search at a path, of which no call was made
 abbrev pub begun : System → Rules → List Bool → List Step → Searching
 begun s rules p left = record { system = s; rules = rules; left = left; path = p; place = Some p; chosen = None }
+
+-- the solutions that remain, and how many nodes
+abbrev pub solutions_left : Searching → List (List Bool)
+solutions_left q = solutions_in q.system q.left
+
+abbrev pub nodes_left : Searching → ℕ
+nodes_left q = length (nodes_in q.left)
+
+-- the search may be asked for its place, the path: what remains has the rest and the load of it
+pub record StandsBefore (q : Searching) (p : List Bool) : Type 0 where
+  pub place : q.place ≡ Some p
+  pub solutions : solutions_left q ≡ rest q.system p
+  pub nodes : nodes_left q ≡ load q.rules q.system p
 
 -- the search once the entry at a path is answered, and once it is answered as a solution
 abbrev pub answered : Searching → List Bool → List Step → Searching
@@ -63,27 +77,29 @@ AdvancesBy q ((p, entry.Branch c) ∷ more) (suc n) event new after = (event ≡
 abbrev pub Advances : Searching → ℕ → Event → Searching → ℕ → Type 0
 Advances q budget event new after = AdvancesBy q q.left budget event new after
 
--- the first entries are passed, among which are these solutions, and the budget falls by their nodes
+-- the first entries are passed, among which are these solutions, and the budget falls by their nodes: what remained are these and those that remain
 pub record Passes (q : Searching) (budget : ℕ) (new : Searching) (after : ℕ) (found : List (List Bool)) : Type 0 where
   pub passed : List Step
   pub joined : q.left ≡ passed ++ new.left
   pub solutions : solutions_in q.system passed ≡ found
   pub nodes : budget ≡ length (nodes_in passed) + after
+  pub solutions_remain : solutions_left q ≡ found ++ solutions_left new
+  pub nodes_remain : nodes_left q + after ≡ nodes_left new + budget
   pub system : new.system ≡ q.system
   pub rules : new.rules ≡ q.rules
 
--- up to the first solution
+-- up to the first solution, for which the search may be asked
 pub record Finds (q : Searching) (budget : ℕ) (new : Searching) (after : ℕ) : Type 0 where
   pub solution : List Bool
   pub passes : Passes q budget new after (solution ∷ [])
   pub chosen : new.chosen ≡ Some solution
 
--- up to a node that the budget doesn't allow, with no solution before it
+-- up to a node that the budget doesn't allow, with no solution before it: the search may be asked for its place
 pub record Stops (q : Searching) (budget : ℕ) (new : Searching) (after : ℕ) : Type 0 where
   pub passes : Passes q budget new after []
   pub spent : after ≡ 0
-  pub place : new.place ≡ Some new.path
-  pub more : 0 < length (nodes_in new.left)
+  pub stands : StandsBefore new new.path
+  pub more : 0 < nodes_left new
 
 -- all of them, with no solution
 pub record Ends (q : Searching) (budget : ℕ) (new : Searching) (after : ℕ) : Type 0 where
@@ -96,6 +112,37 @@ abbrev pub Turns : Searching → ℕ → Turn → Searching → ℕ → Type 0
 Turns q budget turn.Design new after = Finds q budget new after
 Turns q budget turn.Spent new after = Stops q budget new after
 Turns q budget turn.Finished new after = Ends q budget new after
+
+-- the first entry is answered, and the budget pays it where its path is a node
+pub record Gives (q : Searching) (budget : ℕ) (e : Entry) (new : Searching) (after : ℕ) : Type 0 where
+  pub first : q.left ≡ (new.path, e) ∷ new.left
+  pub passes : Passes q budget new after (solutions_in q.system ((new.path, e) ∷ []))
+  pub paid : budget ≡ length (nodes_in ((new.path, e) ∷ [])) + after
+
+-- the answer tells a solution, for which the search may be asked
+pub record GivesSolution (q : Searching) (budget : ℕ) (new : Searching) (after : ℕ) : Type 0 where
+  pub gives : Gives q budget entry.Settled new after
+  pub finds : Finds q budget new after
+
+-- the search stays before a node that the budget doesn't allow
+pub record Stays (q : Searching) (budget : ℕ) (new : Searching) (after : ℕ) : Type 0 where
+  pub same : new.left ≡ q.left
+  pub stops : Stops q budget new after
+
+-- nothing remained
+pub record HasEnded (q : Searching) (budget : ℕ) (new : Searching) (after : ℕ) : Type 0 where
+  pub none : q.left ≡ []
+  pub ends : Ends q budget new after
+
+-- what an answer of `advance` says
+abbrev pub Tells : Searching → ℕ → Event → Searching → ℕ → Type 0
+Tells q budget (Branch c) new after = Gives q budget (entry.Branch c) new after
+Tells q budget (Over r) new after = Gives q budget (entry.Over r) new after
+Tells q budget (Under r) new after = Gives q budget (entry.Under r) new after
+Tells q budget (Residue r m) new after = Gives q budget (entry.Residue r m) new after
+Tells q budget Solution new after = GivesSolution q budget new after
+Tells q budget Spent new after = Stays q budget new after
+Tells q budget Finished new after = HasEnded q budget new after
 
 -- the number of calls of `advance` that give the same answers: one for each entry passed, and one for the own answer where that is no entry
 abbrev pub own_calls : Turn → ℕ

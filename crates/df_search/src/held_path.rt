@@ -6,6 +6,7 @@ ghost use Rattle.df_walk.specs.Remains.{turned};
 ghost use Rattle.df_search.specs.HeldPaths.{as_entry, TurnsTo};
 
 use crate::OutOfMemory;
+use crate::divisors_start::divisors_start;
 use df_steps::Steps;
 use df_system::{Partial, System};
 use df_walk::Rules;
@@ -31,32 +32,37 @@ pub(crate) struct HeldPath<'m> {
     // the path, and no for the columns past it
     values: Vec<bool>,
     length: u32,
+    // no row has a divisor above 1 from a column before this one
+    start: u32,
 }
 
 impl<'m> Model for HeldPath<'m> {
     ghost use Rattle.std.specs.Prelude.{take};
-    ghost use Rattle.df_search.specs.HeldPaths.{Held, IsHeld};
+    ghost use Rattle.df_search.specs.HeldPaths.{Held, IsHeldFrom};
 
     ghost Value = { Held };
 
     ghost view = { λ h. record { system = h.system.now; path = take h.length h.values.items } };
 
-    ghost invariant = { λ h. IsHeld h.system.now h.partial h.values.items h.length };
+    ghost invariant = { λ h. IsHeldFrom h.start h.system.now h.partial h.values.items h.length };
 }
 
 impl<'m> HeldPath<'m> {
     /// The empty path. It takes the room for as many decisions as there are columns.
     pub(crate) fn new(alloc: Global, system: &'m System) -> Result<HeldPath<'m>, OutOfMemory>
-        ensures { IfOk result (λ h. h ≡ record { system = system.now; path = [] }) }
+        ensures value { IfOk result (λ h. h ≡ record { system = system.now; path = [] }) }
+        ensures system { IsSystem system.now }
     {
         let columns = system.columns();
         let partial = Partial::new(alloc, system)?;
         let values = vec![in alloc; false; columns as usize]?;
+        let start = divisors_start(system);
         Ok(HeldPath {
             system,
             partial,
             values,
             length: 0,
+            start,
         })
     }
 
@@ -174,6 +180,9 @@ impl<'m> HeldPath<'m> {
         ensures row { IfSome result (λ found. least_row self.now.system (has_residue self.now.system (decided self.now.path)) ≡ Some found.0) }
         ensures divisor { IfSome result (λ found. found.1 ≡ divisor (entries self.now.system found.0) (decided self.now.path)) }
     {
+        if self.length < self.start {
+            return None;
+        }
         for row in 0..self.system.rows() {
             if let Some(divisor) = self.residue_in(row) {
                 return Some((row, divisor));

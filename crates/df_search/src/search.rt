@@ -1,12 +1,14 @@
 ghost use Rattle.std.specs.Prelude.{◌≡◌, ℕ, ◌+◌, ◌-◌, ◌*◌, ◌<◌, ◌≤◌, [], ◌∷◌, ◌++◌, length, Some, None, IfOk, IfErr, IsSome, IsNone, IfSome, Bool, true, false, ◌==◌};
 ghost use Rattle.std.specs.List.{list_any};
+ghost use Rattle.std.specs.List.Sorted.{IsStrictlyIncreasing};
 ghost use Rattle.df_walk.specs.Systems.{widest};
-ghost use Rattle.df_walk.specs.Walks.{walk, solutions_in, nodes_in};
-ghost use Rattle.df_walk.specs.Paths.{path_of, settled_before, rest, load};
+ghost use Rattle.df_walk.specs.Solutions.{solutions};
+ghost use Rattle.df_walk.specs.Walks.{walk};
+ghost use Rattle.df_walk.specs.Paths.{path_of, settled_before};
 ghost use Rattle.df_walk.specs.Remains.{turned};
 ghost use Rattle.df_search.specs.HeldPaths.{TurnsTo};
 ghost use Rattle.df_search.specs.Resumptions.{Resumes, Refuses, IsFirstSettled, why_of};
-ghost use Rattle.df_search.specs.Searches.{begun, Advances, Turns, calls_of, next_path_of, IsReady, Answers};
+ghost use Rattle.df_search.specs.Searches.{begun, StandsBefore, solutions_left, Advances, Tells, Turns, calls_of, next_path_of, IsReady, Answers};
 
 use crate::held_path::{HeldPath, Verdict};
 use crate::{Event, OutOfMemory, PathView, ResumeError, Turn, Why};
@@ -115,11 +117,15 @@ fn why_not(verdict: Verdict) -> Option<Why>
     }
 }
 
-/// Whether a column is among the chosen ones.
+/// Whether a column is among the chosen ones, which increase.
 fn is_chosen(chosen: &[u32], column: u32) -> bool
+    requires { IsStrictlyIncreasing chosen.now }
     ensures { result ≡ list_any (λ c. c == column) chosen.now }
 {
-    chosen.iter().any(|c| *c == column)
+    match chosen.binary_search(&column) {
+        Ok(_) => true,
+        Err(_) => false,
+    }
 }
 
 /// Decides the columns of a path, one after another. It stops before a proper prefix that is settled, and tells its length.
@@ -142,7 +148,7 @@ fn follow<L: Ledger>(held: &mut HeldPath<'_>, path: &Path, steps: &mut Steps<L>)
 }
 
 impl<'m> Search<'m> {
-    /// A search at the empty path: the whole walk remains.
+    /// A search at the empty path: the whole walk remains, and so do all solutions. It may be asked for its place.
     pub fn new<L: Ledger>(
         alloc: Global,
         system: &'m System,
@@ -150,6 +156,8 @@ impl<'m> Search<'m> {
         steps: &mut Steps<L>,
     ) -> Result<Search<'m>, OutOfMemory>
         ensures value { IfOk result (λ s. s ≡ begun system.now rules [] (walk rules system.now [])) }
+        ensures stands { IfOk result (λ s. StandsBefore s []) }
+        ensures whole { IfOk result (λ s. solutions_left s ≡ solutions system.now) }
         ensures cost { steps.new ≡ steps.old }
     {
         let held = HeldPath::new(alloc, system)?;
@@ -160,7 +168,7 @@ impl<'m> Search<'m> {
         })
     }
 
-    /// A search at a node: the part of the walk that isn't before it remains.
+    /// A search at a node: the part of the walk that isn't before it remains. It may be asked for its place.
     ///
     /// `PathRange` comes exactly where the path is longer than the columns, and `NotNode` exactly where it isn't a node, but where memory is wanted.
     /// Of the reasons, a settled proper prefix is told first.
@@ -201,8 +209,10 @@ impl<'m> Search<'m> {
     ///
     /// `Spent` comes exactly where that entry's path is a node and the budget is 0. The search then stays, and a later call with a budget goes on.
     /// `Finished` comes exactly where no entry remains.
+    /// After `Spent` the search may be asked for its `place`, and after `Solution` for what is `chosen`.
     pub fn advance<L: Ledger>(&mut self, budget: &mut u64, steps: &mut Steps<L>) -> Event
         ensures entry { Advances self.old budget.old result self.new budget.new }
+        ensures told { Tells self.old budget.old result self.new budget.new }
         ensures cost { steps.new + widest self.old.system.columns * length self.new.path ≤ steps.old + widest self.old.system.columns * (length self.old.path + 3) }
     {
         if !go_on(self.state, &mut self.held, steps) {
@@ -219,6 +229,7 @@ impl<'m> Search<'m> {
     ///
     /// `Design` comes exactly where a solution is among the first nodes that remain, as many as the budget; what remained is `chosen` and then what remains now.
     /// `Spent` comes exactly where there is none and more nodes remain, and `Finished` exactly otherwise.
+    /// After `Spent` the search may be asked for its `place`, and after `Design` for what is `chosen`.
     pub fn next<L: Ledger>(&mut self, budget: &mut u64, steps: &mut Steps<L>) -> Turn
         ensures turn { Turns self.old budget.old result self.new budget.new }
         ensures cost { steps.new + widest self.old.system.columns * length self.new.path ≤ steps.old + widest self.old.system.columns * (3 * calls_of self.old result self.new + length self.old.path) }
@@ -233,7 +244,7 @@ impl<'m> Search<'m> {
         }
     }
 
-    /// The values of the solution that was answered last, one for each column.
+    /// The values of the solution that was answered last, one for each column: after `Solution` and `Design`.
     pub fn chosen(&self) -> &[bool]
         requires { IsSome self.now.chosen }
         ensures value { self.now.chosen ≡ Some result.now }
@@ -242,13 +253,11 @@ impl<'m> Search<'m> {
         self.held.values()
     }
 
-    /// The path at which the walk goes on: what remains has its rest and its load.
+    /// The path at which the walk goes on: what remains has its rest and its load. It is there before any other call, and after `Spent`.
     pub fn place(&self) -> PathView<'_>
         requires { IsSome self.now.place }
-        ensures path { self.now.place ≡ Some result.decisions.now }
         ensures long { result.length ≡ length result.decisions.now }
-        ensures rest { solutions_in self.now.system self.now.left ≡ rest self.now.system result.decisions.now }
-        ensures load { length (nodes_in self.now.left) ≡ load self.now.rules self.now.system result.decisions.now }
+        ensures stands { StandsBefore self.now result.decisions.now }
     {
         PathView {
             length: self.held.length(),

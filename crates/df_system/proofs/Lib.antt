@@ -1,6 +1,5 @@
 pub mod StoredColumns
 pub mod SortedCells
-pub mod DivisorSteps
 pub mod PositiveCells
 pub mod GatheredColumns
 pub mod SystemParts
@@ -10,4 +9,5 @@ pub mod ColumnChanges
 pub mod DecisionTrails
 pub mod PartialSteps
 pub mod TalliesAtStart
+pub mod LinkedDivisors
 pub mod IncreasingColumns

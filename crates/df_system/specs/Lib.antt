@@ -1,3 +1,4 @@
 pub mod Storage
+pub mod Divisors
 pub mod Tallies
 pub mod Trails

@@ -3,6 +3,7 @@
 //! The crates above read entries by `System::entry` and make decisions by a `Partial`, both of which count their steps, and ask for needs, caps, and the least row that is over or under.
 #![tactic(auto)]
 
+mod divisors;
 pub mod partial;
 pub mod path;
 pub mod system;

@@ -1,9 +1,9 @@
 ghost use Rattle.std.specs.Prelude.{◌≡◌, ◌≢◌, ℕ, ◌+◌, ◌-◌, ◌*◌, ◌/◌, ◌%◌, ◌<◌, ◌≤◌, [], ◌∷◌, ◌++◌, length, drop, slice_index, All, IfOk, IfErr, IfSome, IsNone, vec_len};
-ghost use Rattle.std.specs.Int.{IsGcd};
 ghost use Rattle.df_walk.specs.Systems.{IsSystem, AreCells, entry_of, entries, entry, target, cells};
 ghost use Rattle.df_walk.specs.Assignments.{cap, common_divisor};
 ghost use Rattle.df_system.specs.Storage.{AreStarts, AreGathered, positive_cells, columns_of, stored, IsDense, IsZeroColumn, IsZeroAmong};
 
+use crate::divisors::{Divisors, link_columns};
 use df_steps::Steps;
 use df_walk::Cell;
 use std::alloc::{AllocError, Global};
@@ -18,17 +18,19 @@ pub struct System {
     // where each column starts among the cells, and last their number
     starts: Vec<u32>,
     cells: Vec<Cell>,
+    divisors: Divisors,
 }
 
 impl Model for System {
     ghost use Rattle.df_walk.specs.Systems.{System as spec};
-    ghost use Rattle.df_system.specs.Storage.{stored, IsStored};
+    ghost use Rattle.df_system.specs.Storage.{stored};
+    ghost use Rattle.df_system.specs.Divisors.{IsStoredWith};
 
     ghost Value = { spec };
 
     ghost view = { λ s. stored s.targets.items s.starts.items s.cells.items };
 
-    ghost invariant = { λ s. IsStored s.targets.items s.starts.items s.cells.items };
+    ghost invariant = { λ s. IsStoredWith s.targets.items s.starts.items s.cells.items s.divisors.heads.items s.divisors.links.items };
 }
 
 /// Why a system can't be made.
@@ -59,18 +61,6 @@ fn value_in(column: &[Cell], row: u32) -> u32
         }
     }
     0
-}
-
-/// The greatest common divisor, by Euclid's steps.
-fn greatest_common(mut a: u32, mut b: u32) -> u32
-    ensures { IsGcd a b result }
-{
-    while b != 0 {
-        let rest = a % b;
-        a = b;
-        b = rest;
-    }
-    a
 }
 
 /// Appends a column's positive entries, each with its row.
@@ -134,6 +124,7 @@ fn first_empty(starts: &[u32]) -> Option<u32>
 impl System {
     /// A system of these parts, if each column has a cell.
     fn from_parts(
+        alloc: Global,
         targets: Vec<u32>,
         starts: Vec<u32>,
         cells: Vec<Cell>,
@@ -150,10 +141,14 @@ impl System {
         if let Some(column) = first_empty(&starts) {
             return Err(SystemError::ZeroColumn(column));
         }
+        let Ok(divisors) = link_columns(alloc, targets.len(), &starts, &cells) else {
+            return Err(SystemError::OutOfMemory);
+        };
         Ok(System {
             targets,
             starts,
             cells,
+            divisors,
         })
     }
 
@@ -172,7 +167,7 @@ impl System {
         let Ok(gathered) = gather(alloc, targets.len(), &entries) else {
             return Err(SystemError::OutOfMemory);
         };
-        System::from_parts(targets, gathered.starts, gathered.cells)
+        System::from_parts(alloc, targets, gathered.starts, gathered.cells)
     }
 
     /// A system of these targets and cells: column k has the cells from place `starts[k]` up to `starts[k + 1]`.
@@ -182,7 +177,7 @@ impl System {
     /// There are at most 16,777,216 cells and 65,536 columns, and fewer than 4,294,967,296 rows; there may be none.
     /// `ZeroColumn` comes exactly where a column has no cell, with the first such column.
     pub fn sparse(
-        _alloc: Global,
+        alloc: Global,
         targets: Vec<u32>,
         starts: Vec<u32>,
         cells: Vec<Cell>,
@@ -196,7 +191,7 @@ impl System {
         ensures system { IfOk result IsSystem }
         ensures zero_column { IfErr result (IsZeroColumn (columns_of starts.items cells.items)) }
     {
-        System::from_parts(targets, starts, cells)
+        System::from_parts(alloc, targets, starts, cells)
     }
 
     /// The number of rows.
@@ -256,20 +251,16 @@ impl System {
     }
 
     /// The greatest common divisor of a row's entries in the columns from `from` on, and 0 where all are 0. It counts no step.
+    /// It goes along the columns up to `from` at which this divisor changes, of which a row has at most 32.
     pub fn divisor(&self, row: u32, from: u32) -> u32
         requires row { row < length self.now.targets }
         requires from { from ≤ length self.now.columns }
         ensures { result ≡ common_divisor (drop from (entries self.now row)) }
     {
-        let mut divisor = 0;
-        let mut column = self.columns();
-        while from < column {
-            column -= 1;
-            divisor = greatest_common(value_in(self.column(column), row), divisor);
-            if divisor == 1 {
-                return 1;
-            }
+        let mut place = self.divisors.heads[row as usize];
+        while self.divisors.links[place].column < from as usize {
+            place = self.divisors.links[place].next;
         }
-        divisor
+        self.divisors.links[place].divisor
     }
 }

@@ -1,6 +1,5 @@
-use Rattle.std.proofs.Common.{◌≡◌, ◌<◌, ◌+◌, ◌∙◌, ap, sym, arith, length, take, true, false, ◌∷◌, ◌++◌, [], length-append}
+use Rattle.std.proofs.Common.{◌≡◌, ◌<◌, ◌+◌, ◌∙◌, ap, arith, length, take, true, false, ◌∷◌, ◌++◌, [], length-append}
 use Rattle.df_walk.specs.Systems.{widest}
-use Rattle.df_search.specs.HeldPaths.{IsHeld}
 use Rattle.df_search.proofs.StandingPaths.{held_more, held_length, IsHeld-from_At}
 use Rattle.df_search.proofs.HeldNeeds.{cells_le_widest}
 use Rattle.df_search.proofs.held_path.HeldPath.extend.Goals as goal
@@ -8,7 +7,7 @@ use Rattle.df_search.proofs.held_path.HeldPath.extend.Goals.{then-yes, else-yes}
 
 pub invariant_of-self : goal.invariant_of-self
 invariant_of-self g c =
-    let h = c.self.invariant in
+    let h = c.self.invariant.held in
     let k = c.self.inside.length in
     let q = take k c.self.inside.values.items in
     let views = ap (λ v. length v.path) c.self.view_is in
@@ -17,13 +16,13 @@ invariant_of-self g c =
     let yes_length : k + 1 ≡ length (q ++ true ∷ []) = omega (arith, length-append q (true ∷ []), held_length h) in
     let no_length : k + 1 ≡ length (q ++ false ∷ []) = omega (arith, length-append q (false ∷ []), held_length h) in
     elim c.if-yes.branch [
-      | then-yes w ↦ rw (w.self-inside-is, w.if-yes.true) (IsHeld-from_At (k + 1) h.is_system (ap (λ a. a.system) w.take.ensures.value ∙ h.same) h.few (held_more w.take.new.self true h short w.take.ensures.value) yes_length)
-      | else-yes w ↦ rw (w.self-inside-is, w.if-yes.false) (IsHeld-from_At (k + 1) h.is_system (ap (λ a. a.system) w.leave.ensures.value ∙ h.same) h.few (held_more w.leave.new.self false h short w.leave.ensures.value) no_length)
+      | then-yes w ↦ rw (w.self-inside-is, w.if-yes.true) (record { held = IsHeld-from_At (k + 1) h.is_system (ap (λ a. a.system) w.take.ensures.value ∙ h.same) h.few (held_more w.take.new.self true h short w.take.ensures.value) yes_length; no_divisors = c.self.invariant.no_divisors })
+      | else-yes w ↦ rw (w.self-inside-is, w.if-yes.false) (record { held = IsHeld-from_At (k + 1) h.is_system (ap (λ a. a.system) w.leave.ensures.value ∙ h.same) h.few (held_more w.leave.new.self false h short w.leave.ensures.value) no_length; no_divisors = c.self.invariant.no_divisors })
     ]
 
 pub returns-clause-cost : goal.returns-clause-cost
 returns-clause-cost g c =
-    let h = c.self.invariant in
+    let h = c.self.invariant.held in
     let same = ap (λ s. widest s.columns) (h.same ∙ ap (λ v. v.system) c.self.view_is) in
     let most = cells_le_widest c.self.inside.partial.system c.self.inside.length in
     elim c.if-yes.branch [

@@ -1,4 +1,4 @@
-use Rattle.std.proofs.Common.{◌≡◌, ◌+◌, ◌*◌, ◌∙◌, ◌∷◌, ◌++◌, [], true, false, length, Some, ap, sym, refl, arith, length-append}
+use Rattle.std.proofs.Common.{◌≡◌, ◌+◌, ◌*◌, ◌∙◌, ◌∷◌, ◌++◌, [], false, length, Some, ap, sym, refl, arith, length-append}
 use Rattle.df_walk.specs.Systems.{widest}
 use Rattle.df_walk.specs.Remains.{turned}
 use Rattle.df_walk.proofs.PaddedPaths.{turned_yes, turned_no}

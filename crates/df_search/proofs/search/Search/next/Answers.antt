@@ -1,4 +1,4 @@
-use Rattle.std.proofs.Common.{◌≡◌, ◌+◌, ◌-◌, ◌*◌, length, arith}
+use Rattle.std.proofs.Common.{◌+◌, ◌-◌, length, arith}
 use Rattle.df_walk.specs.Systems.{widest}
 use Rattle.df_search.proofs.PassedSteps.{passed_count, skips, finds_next, stops, stops_left, ends, cost_more}
 use Rattle.df_search.proofs.search.Search.next.Goals as goal
@@ -14,7 +14,7 @@ returns-in-Solution-clause-cost g c =
     cost_more (widest c.args.self.now.system.columns) c.args.steps.now c.loop.steps c.advance.new.steps (length c.args.self.now.path) (length c.loop.self.path) (length c.advance.new.self.path) (start - length c.loop.self.left) (start - length c.advance.new.self.left + 0) c.loop.invariant.cost (rw passes.system at c.advance.ensures.cost) (omega (arith, found.shorter, passed_count passes))
 
 pub returns-in-Spent-clause-turn : goal.returns-in-Spent-clause-turn
-returns-in-Spent-clause-turn g c = stops c.loop.self c.advance.new.self c.loop.budget c.advance.new.budget c.loop.invariant.passes c.in-Spent.ensures.entry
+returns-in-Spent-clause-turn g c = stops c.loop.self c.advance.new.self c.loop.budget c.advance.new.budget c.loop.invariant.passes c.in-Spent.ensures.entry c.in-Spent.ensures.told.stops.stands
 
 pub returns-in-Spent-clause-cost : goal.returns-in-Spent-clause-cost
 returns-in-Spent-clause-cost g c =

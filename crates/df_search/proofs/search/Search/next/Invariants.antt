@@ -1,4 +1,4 @@
-use Rattle.std.proofs.Common.{◌≡◌, ◌+◌, ◌-◌, ◌*◌, ◌≤◌, length, []}
+use Rattle.std.proofs.Common.{◌+◌, ◌-◌, ◌*◌, ◌≤◌, length, []}
 use Rattle.df_walk.specs.Systems.{widest}
 use Rattle.df_search.specs.Searches.{Passes}
 use Rattle.df_search.proofs.search.Search.next.Given as goal

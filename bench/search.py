@@ -1,0 +1,382 @@
+#!/usr/bin/env python3
+"""Measures how long a search takes for each node and for each cell that it changes, and prints a table of nanoseconds.
+
+search.py [PROGRAM]    PROGRAM is built by the command rt in a folder of its own where it isn't given
+
+The systems are made by numbers that look random: each column has the same number of cells, with entries from 1 to 3 that
+are multiplied by a factor in the second half of the columns, and each target is half the sum of its row. Of each the first
+million nodes are walked, by both rules, by `advance` and by `next`, and beside them by plain loops in C where gcc is there.
+The seconds of a search are those of a run less those of a run with no budget, which makes the system alone. The C program
+prints the number of nodes, entries and changed cells, which are those of the search too, and measures itself.
+"""
+import pathlib, shutil, subprocess, sys, tempfile, time
+
+CRATES = {"df_steps": "", "df_walk": "arrayvec", "df_system": "df_steps df_walk", "df_search": "df_steps df_walk df_system"}
+
+SYSTEMS = (
+    # rows, columns, cells of a column, factor
+    (4, 60, 1, 1),
+    (12, 60, 2, 1),
+    (60, 200, 10, 2),
+    (200, 1000, 40, 2),
+)
+
+BUDGET = 1000000
+
+PROGRAM = '''//! Walks the first nodes of a system: searches ROWS COLUMNS CELLS FACTOR RULES BUDGET HOW, where RULES is 0 or 1, and HOW is 0 for `advance` and 1 for `next`.
+#![tactic(auto)]
+
+ghost use Rattle.std.specs.Prelude.{◌≡◌, ◌<◌};
+
+use df_search::{Event, Search, Turn};
+use df_steps::Steps;
+use df_system::{Rules, System};
+use std::alloc::Global;
+use std::env;
+use std::marker::Brand;
+use std::process::Abort;
+use std::sync::ledger::{Blank, Ledger};
+
+const LIMIT: u64 = 1000000000000;
+
+#[derive(Drop)]
+struct Numbers {
+    state: u64,
+}
+
+impl Numbers {
+    fn next(&mut self, below: u32) -> u32
+        requires { 0 < below }
+    {
+        self.state = self
+            .state
+            .wrapping_mul(6364136223846793005)
+            .wrapping_add(1442695040888963407);
+        (self.state / 8589934592) as u32 % below
+    }
+}
+
+// The entries, column after column.
+fn entries(
+    rt: &impl Abort,
+    alloc: Global,
+    rows: u32,
+    columns: u32,
+    width: u32,
+    factor: u32,
+) -> Vec<u32>
+    requires rows { 0 < rows }
+    requires width { 0 < width }
+{
+    let mut numbers = Numbers { state: 5 };
+    let mut entries = Vec::new(alloc);
+    for column in 0..columns {
+        let first = numbers.next(rows);
+        let mut dense = vec![in alloc; 0; rows as usize].expect(rt, "memory");
+        for place in 0..width {
+            let row = first.wrapping_add(place.wrapping_mul(rows / width)) % rows;
+            let times = if column < columns / 2 { 1 } else { factor };
+            let value = numbers.next(3).wrapping_add(1).wrapping_mul(times);
+            if let Some(entry) = dense.get_mut(row as usize) {
+                *entry = value;
+            }
+        }
+        entries.extend_from_slice(&dense).expect(rt, "memory");
+    }
+    entries
+}
+
+// Half the sum of each row.
+fn targets(rt: &impl Abort, alloc: Global, rows: u32, entries: &[u32]) -> Vec<u32>
+    requires { 0 < rows }
+{
+    let mut sums = vec![in alloc; 0u32; rows as usize].expect(rt, "memory");
+    for (place, entry) in entries.iter().enumerate() {
+        if let Some(sum) = sums.get_mut(place % rows as usize) {
+            *sum = sum.wrapping_add(*entry);
+        }
+    }
+    for sum in sums.iter_mut() {
+        *sum /= 2;
+    }
+    sums
+}
+
+// Steps through the walk up to its end or that of the budget.
+fn advance<L: Ledger>(
+    rt: &impl Abort,
+    alloc: Global,
+    system: &System,
+    rules: Rules,
+    mut budget: u64,
+    blank: Blank,
+) -> u64
+    requires name { blank.name ≡ L.name }
+    requires parts { blank.parts ≡ L.parts }
+    requires blanks { 0 < blank.parts }
+{
+    let mut steps = Steps::<L>::new(blank);
+    let mut search = Search::new(alloc, system, rules, &mut steps).expect(rt, "memory");
+    for _ in 0..LIMIT {
+        match search.advance(&mut budget, &mut steps) {
+            Event::Spent | Event::Finished => return budget,
+            _ => {}
+        }
+    }
+    budget
+}
+
+// The same from solution to solution.
+fn next<L: Ledger>(
+    rt: &impl Abort,
+    alloc: Global,
+    system: &System,
+    rules: Rules,
+    mut budget: u64,
+    blank: Blank,
+) -> u64
+    requires name { blank.name ≡ L.name }
+    requires parts { blank.parts ≡ L.parts }
+    requires blanks { 0 < blank.parts }
+{
+    let mut steps = Steps::<L>::new(blank);
+    let mut search = Search::new(alloc, system, rules, &mut steps).expect(rt, "memory");
+    for _ in 0..LIMIT {
+        match search.next(&mut budget, &mut steps) {
+            Turn::Design => {}
+            _ => return budget,
+        }
+    }
+    budget
+}
+
+fn main(rt: HostRuntime) {
+    let alloc = rt.alloc();
+    let mut numbers = Vec::new(alloc);
+    for word in env::args(&rt).expect(&rt, "words").skip(1) {
+        numbers.push(word.parse::<u32>().unwrap_or(0)).expect(&rt, "memory");
+    }
+    let (rows, columns, width, factor, rules, budget, how) = match numbers.as_slice() {
+        [rows, columns, width, factor, rules, budget, how] => (
+            *rows, *columns, *width, *factor, *rules, *budget, *how,
+        ),
+        _ => return,
+    };
+    if rows == 0 || width == 0 {
+        return;
+    }
+    let entries = entries(&rt, alloc, rows, columns, width, factor);
+    let targets = targets(&rt, alloc, rows, &entries);
+    if targets.is_empty()
+        || targets.len() >= 4294967296
+        || entries.len() % targets.len() != 0
+        || entries.len() > 16777216
+    {
+        return;
+    }
+    let Ok(system) = System::new(alloc, targets, entries) else {
+        return;
+    };
+    let rules = if rules == 0 { Rules::Plain } else { Rules::Divisor };
+    let left = if how == 0 {
+        advance::<Brand>(&rt, alloc, &system, rules, budget as u64, Blank::new(1))
+    } else {
+        next::<Brand>(&rt, alloc, &system, rules, budget as u64, Blank::new(1))
+    };
+    assert!(&rt; left <= budget as u64);
+}
+'''
+
+PROOFS = {
+    "main": '''use Rattle.searches.proofs.main.Given as goal
+
+abbrev pub ghosts-advance : goal.ghosts-advance
+ghosts-advance g a = record { name = a.blank.name; parts = a.blank.parts }
+
+abbrev pub ghosts-next : goal.ghosts-next
+ghosts-next g a = record { name = a.blank.name; parts = a.blank.parts }
+''',
+}
+
+LOOPS = r'''// Walks the first nodes of a system by plain loops: walk ROWS COLUMNS CELLS FACTOR RULES BUDGET.
+#include <stdint.h>
+#include <stdio.h>
+#include <stdlib.h>
+#include <time.h>
+
+static uint64_t state = 5;
+
+static uint32_t draw(uint32_t below) {
+    state = state * 6364136223846793005u + 1442695040888963407u;
+    return (uint32_t)(state >> 33) % below;
+}
+
+struct cell { uint32_t row, value; };
+
+static uint32_t rows, columns, width;
+static struct cell *cells;
+static uint64_t *target, *taken, *cap;
+static uint32_t *divisors;
+static uint32_t over, under, unmet;
+
+static uint32_t common(uint32_t a, uint32_t b) {
+    while (b) { uint32_t rest = a % b; a = b; b = rest; }
+    return a;
+}
+
+static void count(uint32_t row, uint32_t sign) {
+    over += sign * (taken[row] > target[row]);
+    under += sign * (taken[row] + cap[row] < target[row]);
+    unmet += sign * (taken[row] != target[row]);
+}
+
+static void change(uint32_t column, int64_t take, int64_t leave) {
+    for (struct cell *c = cells + column * width; c < cells + (column + 1) * width; c++) {
+        count(c->row, -1);
+        taken[c->row] += take * (int64_t)c->value;
+        cap[c->row] += leave * (int64_t)c->value;
+        count(c->row, 1);
+    }
+}
+
+static int residue(uint32_t length) {
+    for (uint32_t row = 0; row < rows; row++) {
+        uint32_t divisor = divisors[length * rows + row];
+        if (divisor > 1 && (target[row] - taken[row]) % divisor) return 1;
+    }
+    return 0;
+}
+
+int main(int argc, char **argv) {
+    if (argc < 7) return 1;
+    rows = atoi(argv[1]), columns = atoi(argv[2]), width = atoi(argv[3]);
+    uint32_t factor = atoi(argv[4]), rules = atoi(argv[5]);
+    uint64_t budget = atoll(argv[6]), nodes = 0, entries = 0, solutions = 0, changes = 0;
+    cells = malloc(sizeof *cells * columns * width);
+    target = calloc(rows, 8), taken = calloc(rows, 8), cap = calloc(rows, 8);
+    divisors = calloc((columns + 1) * rows, 4);
+    for (uint32_t column = 0; column < columns; column++) {
+        uint32_t first = draw(rows);
+        uint32_t dense[4096] = {0};
+        for (uint32_t i = 0; i < width; i++) {
+            uint32_t row = (first + i * (rows / width)) % rows;
+            dense[row] = (1 + draw(3)) * (column < columns / 2 ? 1 : factor);
+        }
+        uint32_t n = 0;
+        for (uint32_t row = 0; row < rows; row++)
+            if (dense[row]) {
+                cells[column * width + n++] = (struct cell){row, dense[row]};
+                cap[row] += dense[row];
+            }
+    }
+    for (uint32_t column = columns; column-- > 0;) {
+        for (uint32_t row = 0; row < rows; row++) divisors[column * rows + row] = divisors[(column + 1) * rows + row];
+        for (uint32_t i = 0; i < width; i++) {
+            struct cell c = cells[column * width + i];
+            divisors[column * rows + c.row] = common(c.value, divisors[column * rows + c.row]);
+        }
+    }
+    for (uint32_t row = 0; row < rows; row++) target[row] = cap[row] / 2, count(row, 1);
+    uint8_t *path = calloc(columns + 1, 1);
+    uint32_t length = 0;
+    struct timespec a, b;
+    clock_gettime(CLOCK_MONOTONIC, &a);
+    for (;;) {
+        int leaf = over || under || (rules && residue(length));
+        if (!leaf) {
+            if (nodes == budget) break;
+            nodes++;
+        }
+        entries++;
+        if (!leaf && unmet) {
+            path[length] = 1;
+            change(length++, 1, -1), changes += width;
+            continue;
+        }
+        solutions += !leaf;
+        int found = 0;
+        while (length && !found) {
+            length--;
+            found = path[length];
+            change(length, found ? -1 : 0, 1), changes += width;
+        }
+        if (!found) break;
+        path[length] = 0;
+        change(length++, 0, -1), changes += width;
+    }
+    clock_gettime(CLOCK_MONOTONIC, &b);
+    printf("%llu %llu %llu %llu %.9f\n", (unsigned long long)nodes, (unsigned long long)entries, (unsigned long long)solutions, (unsigned long long)changes, (b.tv_sec - a.tv_sec) + (b.tv_nsec - a.tv_nsec) * 1e-9);
+}
+'''
+
+
+def build(folder):
+    top = pathlib.Path(__file__).resolve().parent.parent
+    for name in CRATES:
+        shutil.copytree(top / "crates" / name, folder / "crates" / name)
+    own = folder / "crates" / "searches"
+    (own / "src").mkdir(parents=True)
+    (own / "src" / "main.rt").write_text(PROGRAM)
+    for name, text in PROOFS.items():
+        (own / "proofs" / name).mkdir(parents=True)
+        (own / "proofs" / name / "Invariants.antt").write_text(text)
+    lines = [f"{name}: {uses}\n" for name, uses in CRATES.items()]
+    (folder / "crates.txt").write_text("".join(lines) + "searches: df_steps df_walk df_system df_search\n")
+    print("proving and building; this takes some minutes", file=sys.stderr)
+    subprocess.run(["rt", "run", "--", "0"], cwd=own, check=True, stdout=sys.stderr)
+    return own / "out" / "searches"
+
+
+def build_loops(folder):
+    if shutil.which("gcc") is None:
+        return None
+    (folder / "walk.c").write_text(LOOPS)
+    subprocess.run(["gcc", "-O2", "-o", folder / "walk", folder / "walk.c"], check=True)
+    return folder / "walk"
+
+
+def seconds(program, words):
+    start = time.perf_counter()
+    subprocess.run([program, *map(str, words)], check=True)
+    return time.perf_counter() - start
+
+
+def loops(program, system, rules):
+    runs = [subprocess.run([program, *map(str, system), str(rules), str(BUDGET)], check=True, capture_output=True, text=True) for _ in range(3)]
+    nodes, entries, solutions, changes, _ = runs[0].stdout.split()
+    return int(nodes), int(entries), int(changes), min(float(run.stdout.split()[4]) for run in runs)
+
+
+def search(program, system, rules, how):
+    empty = min(seconds(program, (*system, rules, 0, how)) for _ in range(3))
+    return min(seconds(program, (*system, rules, BUDGET, how)) for _ in range(3)) - empty
+
+
+def table(program, plain):
+    print(f"{'rows':>4} {'columns':>7} {'cells':>5} {'rules':>8} {'nodes':>8} {'changes':>9} {'':>8} {'seconds':>8} {'ns/node':>8} {'ns/cell':>8}")
+    for system in SYSTEMS:
+        for rules in (0, 1):
+            nodes, changes, lines = BUDGET, None, []
+            if plain is not None:
+                nodes, _, changes, taken = loops(plain, system, rules)
+                lines.append(("C", taken))
+            for how, name in enumerate(("advance", "next")):
+                lines.append((name, search(program, system, rules, how)))
+            for name, taken in lines:
+                cells = f"{taken / changes * 1e9:>8.2f}" if changes else f"{'':>8}"
+                words = f"{system[0]:>4} {system[1]:>7} {system[2]:>5} {('plain', 'divisor')[rules]:>8} {nodes:>8} {changes or '':>9}"
+                print(f"{words} {name:>8} {taken:>8.3f} {taken / nodes * 1e9:>8.1f} {cells}", flush=True)
+
+
+def main():
+    with tempfile.TemporaryDirectory() as name:
+        folder = pathlib.Path(name)
+        plain = build_loops(folder)
+        if len(sys.argv) > 1:
+            table(pathlib.Path(sys.argv[1]).resolve(), plain)
+        else:
+            table(build(folder), plain)
+
+
+if __name__ == "__main__":
+    main()
