@@ -1,0 +1,11 @@
+pub mod ClassMembers
+pub mod EntryQuotients
+pub mod FewBlocks
+pub mod HeldPairs
+pub mod KeptOrbits
+pub mod OrbitBlocks
+pub mod OrbitColumns
+pub mod ProblemMaps
+pub mod RowLists
+pub mod SparseColumns
+pub mod ToldCells

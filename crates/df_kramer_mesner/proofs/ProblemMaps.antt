@@ -1,0 +1,45 @@
+-- The maps of a problem are a group, of points and of blocks.
+use Rattle.std.proofs.Common.{suc, List, [], ◌∷◌, All, subst, inl, inr, arith}
+use Rattle.std.specs.List.{range_with_len}
+use Rattle.df_lists.specs.Membership.{In}
+use Rattle.df_lists.specs.NumberSets.{IsSet}
+use Rattle.df_group.specs.Elements.{order_of}
+use Rattle.df_group.specs.Subgroups.{IsSubgroup}
+use Rattle.df_group.proofs.GeneratedSets.{generated_none, generated_whole}
+use Rattle.df_subsets.specs.Subsets.{same_list}
+use Rattle.df_acting.specs.Classes.{IsMapGroup, IsSpread}
+use Rattle.df_acting.proofs.ImageLaws.{image_group}
+use Rattle.df_acting.proofs.SpreadLaws.{subsets_spread, candidates_spread}
+use Rattle.df_maps.specs.FullMaps.{full_maps, image, carried}
+use Rattle.df_maps.specs.Laws.{MapsAreMade, MapsAreGroups, AreGroup}
+use Rattle.df_lang.specs.declared.parts.Which.{Which}
+use Rattle.df_lang.specs.declared.parts.Which.TheVariants as which
+use Rattle.df_lang.specs.Problems.{Stated, IsStated, IsWord, IsMultiplier, point_count}
+use Rattle.df_lang.specs.Targets.{subgroup_at}
+use Rattle.df_kramer_mesner.specs.OrbitSystems.{maps_of_problem, all_pairs, all_blocks}
+
+-- what is true of each place is true of each member
+pub all_members : {X : Type 0} (P : X → Type 0) (xs : List X) → All P xs → (x : X) → In xs x → P x
+all_members P [] all x i = absurd i
+all_members P (y ∷ ys) all x (inl e) = subst P e (all 0 x (omega arith))
+all_members P (y ∷ ys) all x (inr i) = all_members P ys (λ k d l. all (suc k) d (omega (arith, l))) x i
+
+word_subgroup : (s : Stated) → IsStated s → (word : Which) → IsWord s.names word → IsSubgroup s.group (subgroup_at s word)
+word_subgroup s is which.All h = (range_with_len 0 (order_of s.group), generated_whole s.group is.shape)
+word_subgroup s is which.Trivial h = ([], generated_none s.group is.shape)
+word_subgroup s is (which.Named i) h = (is.names i ([], []) h).subgroup
+
+pub problem_group : MapsAreMade → MapsAreGroups → (s : Stated) → IsStated s → AreGroup (maps_of_problem s)
+problem_group made groups s is =
+    groups (maps_of_problem s) (made s.group s.fixed (subgroup_at s s.shift) s.mults is.shape is.points (word_subgroup s is s.shift is.shift)
+    (λ m i. (all_members (IsMultiplier s.group) s.mults is.mults m i).unit))
+
+module _ (s : Stated) (A : AreGroup (maps_of_problem s)) where
+  pub blocks_group : IsMapGroup (image (maps_of_problem s)) (IsSet (point_count s)) (full_maps (maps_of_problem s))
+  blocks_group = image_group (carried (maps_of_problem s)) (point_count s) (full_maps (maps_of_problem s)) A.group
+
+  pub pairs_spread : IsSpread same_list (image (maps_of_problem s)) (IsSet (point_count s)) (full_maps (maps_of_problem s)) (all_pairs s)
+  pairs_spread = subsets_spread (carried (maps_of_problem s)) (point_count s) (full_maps (maps_of_problem s)) A.group 2
+
+  pub blocks_spread : IsSpread same_list (image (maps_of_problem s)) (IsSet (point_count s)) (full_maps (maps_of_problem s)) (all_blocks s)
+  blocks_spread = candidates_spread (carried (maps_of_problem s)) (point_count s) (full_maps (maps_of_problem s)) A.group s.sizes

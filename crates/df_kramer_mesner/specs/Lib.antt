@@ -1,0 +1,3 @@
+pub mod OrbitSystems
+pub mod Laws
+pub mod WorkedSystem
