@@ -1,0 +1,16 @@
+mod AllCells
+mod CellEntries
+mod CellTests
+mod ClassParts
+mod EntryReads
+mod MarkLists
+mod NeededCells
+mod OrbitCells
+mod PairLists
+mod PlaceLists
+mod RisingCells
+mod RowLists
+mod StoredColumns
+mod SubsetLimits
+mod SystemColumns
+mod Tallies

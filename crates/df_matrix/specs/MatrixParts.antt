@@ -1,0 +1,73 @@
+-- What an orbit matrix keeps beside its problem, and how it is found.
+use Rattle.std.specs.Prelude.{◌≡◌, ℕ, zero, suc, ◌+◌, ◌*◌, ◌/◌, ◌==◌, ◌<◌, ◌≤◌, Bool, List, [], ◌∷◌, ◌++◌, map, length, filter, All, Some, slice_get, slice_index_or}
+use Rattle.std.specs.List.{range_with_len}
+use Rattle.df_lists.specs.Membership.{count}
+use Rattle.df_lang.specs.Problems.{Stated, IsStated}
+use Rattle.df_maps.specs.FullMaps.{MapGroup}
+use Rattle.df_maps.specs.Laws.{AreGroup}
+use Rattle.df_orbits.specs.OrbitClasses.{pair_classes, block_classes}
+use Rattle.df_walk.specs.declared.Cell.{Cell}
+use Rattle.df_walk.specs.Systems.{System}
+use Rattle.df_system.specs.Storage.{positive_cells, AreStarts, columns_of}
+use Rattle.df_kramer_mesner.specs.OrbitSystems.{maps_of_problem, alike, all_blocks, pairs_of, orbits_of, has_alike, row_size, pair_entry, entries_of, is_kept, orbit_system}
+
+-- the maps, the classes of pairs and of blocks, and the maps of the table of pairs, are those of the problem, and there are few blocks
+pub record AreClasses (s : Stated) (maps : MapGroup) (pairs : List (List ℕ × ℕ)) (numbers : MapGroup) (orbits : List (List ℕ × ℕ)) : Type 0 where
+  pub maps_are : maps ≡ maps_of_problem s
+  pub pairs_are : pairs ≡ pair_classes (maps_of_problem s)
+  pub numbers_are : numbers ≡ maps_of_problem s
+  pub orbits_are : orbits ≡ block_classes (maps_of_problem s) s.sizes
+  pub stated : IsStated s
+  pub group : AreGroup (maps_of_problem s)
+  pub few : length (all_blocks s) ≤ 8000000
+
+-- the pairs of listed points whose first one is among the first k
+abbrev pub pairs_before : ℕ → List ℕ → List (List ℕ)
+pairs_before zero b = []
+pairs_before (suc k) [] = []
+pairs_before (suc k) (p ∷ b) = map (λ q. p ∷ q ∷ []) b ++ pairs_before k b
+
+-- the rows are those of the pairs: each row is listed as often as pairs are in its class
+pub record AreRowsOf (s : Stated) (pairs : List (List ℕ)) (rows : List ℕ) : Type 0 where
+  pub long : length rows ≡ length pairs
+  pub within : All (λ row. row < length (pairs_of s)) rows
+  pub tally : (i : ℕ) (pair : List ℕ) → slice_get (pairs_of s) i ≡ Some pair → count (λ row. row == i) rows ≡ count (λ p. alike s p pair) pairs
+
+-- the entry of an orbit of so many blocks, where so many pairs of a block of it are in the row
+abbrev pub quotient_cell : Stated → ℕ → Cell → Cell
+quotient_cell s size cell = record { row = cell.row; value = (size * cell.value) / row_size s (slice_index_or (pairs_of s) cell.row []) }
+
+-- the orbit of a number
+abbrev pub orbit_at : Stated → ℕ → List ℕ
+orbit_at s orbit = slice_index_or (orbits_of s) orbit []
+
+-- the positive entries of an orbit in the rows of pairs, and in all rows
+abbrev pub pair_cells : Stated → List ℕ → List Cell
+pair_cells s b = positive_cells 0 (map (pair_entry s b) (pairs_of s))
+
+abbrev pub all_cells : Stated → List ℕ → List Cell
+all_cells s b = positive_cells 0 (entries_of s b)
+
+-- columns of so many numbers, stored one after another
+pub record AreStored (column : ℕ → List Cell) (numbers : List ℕ) (starts : List ℕ) (cells : List Cell) : Type 0 where
+  pub starts_are : AreStarts starts (length cells)
+  pub columns_are : columns_of starts cells ≡ map column numbers
+  pub count : length starts ≡ length numbers + 1
+  pub few : length cells ≤ 121 * length numbers
+
+-- the places of the listed blocks that pass a test, increasing
+abbrev pub places_where : (List ℕ → Bool) → List (List ℕ) → List ℕ
+places_where test blocks = filter (λ i. test (slice_index_or blocks i [])) (range_with_len 0 (length blocks))
+
+-- the numbers of the orbits that have a required block, and of those that are kept
+abbrev pub needed_places : Stated → List ℕ
+needed_places s = places_where (has_alike s s.required) (orbits_of s)
+
+abbrev pub kept_places : Stated → List ℕ
+kept_places s = places_where (is_kept s) (orbits_of s)
+
+pub record AreColumns (s : Stated) (needed kept : List ℕ) (system : System) : Type 0 where
+  pub needed_are : needed ≡ needed_places s
+  pub kept_are : kept ≡ kept_places s
+  pub few : length kept ≤ 65536
+  pub system_is : system ≡ orbit_system s

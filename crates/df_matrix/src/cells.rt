@@ -1,0 +1,115 @@
+// The entries of an orbit in the rows of pairs.
+ghost use Rattle.std.specs.Prelude.{◌≡◌, ◌==◌, ◌+◌, ◌<◌, ◌≤◌, ℕ, List, true, false, length, map, All, Some, nat_le, slice_get, slice_index};
+ghost use Rattle.std.specs.List.{list_all};
+ghost use Rattle.std.specs.List.Sorted.{IsNonDecreasing};
+ghost use Rattle.df_lists.specs.Membership.{count};
+ghost use Rattle.df_walk.specs.Systems.{AreCells, entry_of};
+ghost use Rattle.df_kramer_mesner.specs.OrbitSystems.{pairs_of, orbits_of};
+ghost use Rattle.df_matrix.specs.MatrixParts.{quotient_cell, pair_cells as pair_cells_of, orbit_at};
+
+use crate::classes::Classes;
+use crate::rows::sorted_rows;
+use arrayvec::ArrayVec;
+use df_kramer_mesner::{cells_are_told_by_entries, entries_are_quotients};
+use df_system::Cell;
+
+/// The positive entries of an orbit in the rows of pairs.
+pub type Cells = ArrayVec<Cell, 120>;
+
+// Whether the row at this place is listed at the next one too.
+fn goes_on(rows: &[u32], place: usize) -> bool
+    requires { place < length rows.now }
+    ensures more { result ≡ true → (place + 1 < length rows.now) × (slice_index rows.now (place + 1) ≡ slice_index rows.now place) }
+    ensures last { result ≡ false → place + 1 < length rows.now → slice_index rows.now (place + 1) ≡ slice_index rows.now place → ⊥ }
+{
+    if place + 1 == rows.len() {
+        return false;
+    }
+    rows[place + 1] == rows[place]
+}
+
+// Each different row with how often it is listed.
+fn tally(rows: &[u32]) -> Cells
+    requires sorted { IsNonDecreasing rows.now }
+    requires few { length rows.now ≤ 120 }
+    ensures cells { (n : ℕ) → All (λ row. row < n) rows.now → AreCells n result.items }
+    ensures tally { (row : ℕ) → entry_of result.items row ≡ count (λ r. r == row) rows.now }
+    ensures small { All (λ cell. cell.value ≤ 120) result.items }
+{
+    let mut cells = ArrayVec::new();
+    let mut count = 0;
+    for i in 0..rows.len() {
+        count += 1;
+        if goes_on(rows, i) {
+            continue;
+        }
+        cells.push(Cell {
+            row: rows[i],
+            value: count,
+        });
+        count = 0;
+    }
+    cells
+}
+
+// The entries of an orbit of so many blocks, from how many pairs of one of its blocks lie in each row:
+// each of a row's pairs lies in the same number of blocks.
+fn quotients(classes: &Classes, size: u32, tally: &[Cell]) -> Cells
+    requires orbits { 0 < length (orbits_of classes.now) }
+    requires size { size ≤ 8000000 }
+    requires few { length tally.now ≤ 120 }
+    requires rows { All (λ cell. cell.row < length (pairs_of classes.now)) tally.now }
+    requires small { All (λ cell. cell.value ≤ 120) tally.now }
+    ensures { result.items ≡ map (quotient_cell classes.now size) tally.now }
+{
+    let mut cells = ArrayVec::new();
+    for cell in tally {
+        cells.push(Cell {
+            row: cell.row,
+            value: size * cell.value / classes.row_size(cell.row),
+        });
+    }
+    cells
+}
+
+/// The positive entries of an orbit in the rows of pairs.
+pub fn pair_cells(classes: &Classes, orbit: usize) -> Cells
+    requires { orbit < length (orbits_of classes.now) }
+    ensures entries { result.items ≡ pair_cells_of classes.now (orbit_at classes.now orbit) }
+    ensures cells { AreCells (length (pairs_of classes.now)) result.items }
+{
+    entries_are_quotients();
+    cells_are_told_by_entries();
+    let rows = sorted_rows(classes, &classes.orbit(orbit));
+    quotients(
+        classes,
+        classes.orbit_size(orbit),
+        tally(rows.as_slice()).as_slice(),
+    )
+}
+
+/// The value of a row's cell, 0 where it has none.
+pub fn value_at(cells: &[Cell], row: u32) -> u32
+    requires { (rows : ℕ) × AreCells rows cells.now }
+    ensures { result ≡ entry_of cells.now row }
+{
+    for cell in cells {
+        if cell.row == row {
+            return cell.value;
+        }
+    }
+    0
+}
+
+/// Whether no entry is above its row's target.
+pub fn fit(cells: &[Cell], targets: &[u32]) -> bool
+    requires { All (λ cell. cell.row < length targets.now) cells.now }
+    ensures { result ≡ list_all (λ cell. nat_le cell.value (slice_index targets.now cell.row)) cells.now }
+{
+    for cell in cells {
+        if cell.value > targets[cell.row as usize] {
+            return false;
+        }
+    }
+    true
+}

@@ -1,0 +1,19 @@
+//! The orbit matrix of a problem: its rows, orbits, entries and columns, and the system that they make.
+//! It stands on df_orbits for classes by marks, on df_system for sparse columns, and on df_kramer_mesner for what an orbit system is.
+//! The crates above see an `OrbitMatrix` as its problem: each call answers a word of df_kramer_mesner's specs/OrbitSystems.antt on that problem.
+#![tactic(auto)]
+
+mod cells;
+mod classes;
+mod columns;
+#[cfg(test)]
+mod comparisons;
+mod matrix;
+mod rows;
+#[cfg(test)]
+mod tests;
+
+pub use matrix::{MatrixError, OrbitMatrix, build};
+
+/// Want of memory.
+pub type OutOfMemory = std::alloc::AllocError;
