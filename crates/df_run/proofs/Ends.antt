@@ -1,5 +1,5 @@
 -- What was written, and how a run ends.
-use Rattle.std.proofs.Common.{◌≡◌, ℕ, ◌++◌, ◌∷◌, List, Some, None, Ok, Err, Result, IfSome, OnOk, OnErr, is_ok, cond, All, suc, refl, sym, ap, ◌∙◌, subst, inl, inr, arith, append-nil, append_assoc, length-append}
+use Rattle.std.proofs.Common.{◌≡◌, ℕ, ◌++◌, ◌∷◌, List, Some, None, Ok, Err, Result, IfSome, OnOk, OnErr, is_ok, cond, All, [], suc, refl, sym, ap, ◌∙◌, subst, inl, inr, arith, append-nil, append_assoc, length-append}
 use Rattle.std.specs.declared.option.Option.{Option}
 use Rattle.std.specs.Io.KnownBytes.{Appends, Keeps, Consumes, IsAtEnd}
 use Rattle.std.proofs.KnownBytes.{Appends-trans}
@@ -19,6 +19,16 @@ part_behind a b c text done line rest whole before part =
       omega (arith, length-append back rest, part.3),
       Appends-trans a b c done front before part.4,
     )
+
+-- the same of a last text, of which a part was written where there is an error
+pub part_at_end : {T E : Type 0} (r : Result T E) (a b c : Option (List ℕ)) (text done last : List ℕ) → text ≡ done ++ last → Appends a b done → OnErr r (AppendsPart b c last) → OnErr r (AppendsPart a c text)
+part_at_end (Ok x) a b c text done last whole before part = tt
+part_at_end (Err e) a b c text done last whole before part = part_behind a b c text done last [] (whole ∙ ap (λ l. done ++ l) (sym (append-nil last))) before part
+
+-- all of a last text was appended where there is no error
+pub all_at_end : {T E : Type 0} (r : Result T E) (a b c : Option (List ℕ)) (text done last : List ℕ) → text ≡ done ++ last → Appends a b done → OnOk r (Appends b c last) → OnOk r (Appends a c text)
+all_at_end (Ok x) a b c text done last whole before all = subst (Appends a c) (sym whole) (Appends-trans a b c done last before all)
+all_at_end (Err e) a b c text done last whole before all = tt
 
 pub keeps_same : (a : Option (List ℕ)) → Keeps a a
 keeps_same None = tt

@@ -13,7 +13,7 @@ use Rattle.df_run.specs.Answers.{Answer, answer}
 use Rattle.df_run.specs.declared.status.Status.{Status}
 use Rattle.df_run.specs.declared.status.Status.TheVariants as ends
 use Rattle.df_run.specs.declared.words.Command.{Command}
-use Rattle.df_run.specs.declared.words.Command.TheVariants.{Show, Table, Verify}
+use Rattle.df_run.specs.declared.words.Command.TheVariants.{Show, Table, Verify, Orbits, Matrix}
 use Rattle.df_run.specs.declared.words.UsageFault.{UsageFault}
 
 -- the most bytes that an input may have
@@ -55,6 +55,8 @@ abbrev pub AnswersBalance : Command → Stated → Status → Type 0
 AnswersBalance Show s result = ⊤
 AnswersBalance Table s result = ⊤
 AnswersBalance Verify s result = TellsBalance s result
+AnswersBalance Orbits s result = ⊤
+AnswersBalance Matrix s result = ⊤
 
 -- and to what an input says
 abbrev pub VerifiesBalance : Command → List ℕ → Status → Type 0

@@ -1,7 +1,7 @@
 -- The words of each command, and the first word at which no command's words go on.
 use Rattle.std.specs.Prelude.{ℕ, List, [], ◌∷◌, if◌then◌else◌, Option, Some, None, Result, Ok, Err, codes, bytes_eq}
 use Rattle.df_run.specs.declared.words.Command.{Command}
-use Rattle.df_run.specs.declared.words.Command.TheVariants.{Show, Table, Verify}
+use Rattle.df_run.specs.declared.words.Command.TheVariants.{Show, Table, Verify, Orbits, Matrix}
 use Rattle.df_run.specs.declared.words.UsageFault.{UsageFault}
 
 -- the command that a word names
@@ -9,7 +9,9 @@ abbrev pub command_of : List ℕ → Option Command
 command_of word =
     if bytes_eq word (codes "show") then Some Show else
     (if bytes_eq word (codes "table") then Some Table else
-    (if bytes_eq word (codes "verify") then Some Verify else None))
+    (if bytes_eq word (codes "verify") then Some Verify else
+    (if bytes_eq word (codes "orbits") then Some Orbits else
+    (if bytes_eq word (codes "matrix") then Some Matrix else None))))
 
 abbrev pub fault_at : ℕ → Result Command UsageFault
 fault_at number = Err record { word = number }

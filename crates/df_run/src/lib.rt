@@ -3,7 +3,13 @@
 //! The program calls `run`; its clause says for each end what was read and what was written.
 #![tactic(auto)]
 
+mod limits;
 mod lines;
+mod matrix;
+mod matrix_lines;
+mod matrix_texts;
+mod orbit_texts;
+mod orbits;
 mod status;
 mod texts;
 mod top;
@@ -13,5 +19,9 @@ pub use status::Status;
 pub use top::run;
 pub use words::{Command, UsageFault, read_words};
 
+#[cfg(test)]
+mod matrix_tests;
+#[cfg(test)]
+mod orbit_tests;
 #[cfg(test)]
 mod tests;

@@ -1,7 +1,8 @@
 // The lines of answers.
 ghost use Rattle.std.specs.Prelude.{◌≡◌, ◌≤◌, length};
 ghost use Rattle.df_family.specs.Tables.{IsRow};
-ghost use Rattle.df_run.specs.Texts.{row_line, block_line, accepted_line, refused_line, usage_text, source_refusal};
+ghost use Rattle.df_run.specs.Texts.{row_line, block_line, count_line, refused_line, usage_text, source_refusal};
+ghost use Rattle.df_run.specs.OrbitTexts.{class_line};
 
 use crate::words::UsageFault;
 use arrayvec::ArrayVec;
@@ -23,14 +24,15 @@ pub fn usage_line(fault: UsageFault) -> LineBuf
     line
 }
 
-/// The first line of an accepted family: how many blocks follow.
-#[tactic(auto, unfolding(crate::specs::Texts::accepted_line), using(crate::proofs::LineLengths::number_is_short))]
-pub fn line_of_count(blocks: u64) -> LineBuf
-    ensures { result.items ≡ accepted_line blocks }
+/// A word of at most 16 bytes, the space behind it included, and how many there are of what it names.
+#[tactic(auto, unfolding(crate::specs::Texts::count_line), using(crate::proofs::LineLengths::number_is_short))]
+pub fn line_of_count(word: &[u8], count: u64) -> LineBuf
+    requires { length word.now ≤ 16 }
+    ensures { result.items ≡ count_line word.now count }
 {
     let mut line = ArrayVec::new();
-    put_text(&mut line, b"accepted ");
-    put_number(&mut line, blocks);
+    put_text(&mut line, word);
+    put_number(&mut line, count);
     line.push(b'\n');
     line
 }
@@ -88,6 +90,24 @@ pub fn line_of_block(problem: &Problem, block: &Block) -> LineBuf
     let mut line = ArrayVec::new();
     put_text(&mut line, b"block ");
     put_block(&mut line, problem, block);
+    line.push(b'\n');
+    line
+}
+
+/// The line of a class: a word of at most 16 bytes, the space behind it included, its earliest member, of at most 16 points,
+/// and how many members it has.
+#[tactic(auto, unfolding(crate::specs::OrbitTexts::class_line), using(crate::proofs::LineLengths::number_is_short))]
+pub fn line_of_class(word: &[u8], problem: &Problem, member: &Block, size: u32) -> LineBuf
+    requires word { length word.now ≤ 16 }
+    requires member { length member.now ≤ 16 }
+    ensures { result.items ≡ class_line word.now problem.now (member.now, size) }
+{
+    block_text_is_short(problem, member);
+    let mut line = ArrayVec::new();
+    put_text(&mut line, word);
+    put_block(&mut line, problem, member);
+    put_text(&mut line, b" size ");
+    put_number(&mut line, u64::from(size));
     line.push(b'\n');
     line
 }

@@ -96,7 +96,7 @@ fn write_development<K: Sink>(problem: &Problem, blocks: u64, out: &mut K) -> Re
     ensures fault { OnErr result (Rose (K.faults out.old) (K.faults out.new)) }
     ensures later { K.faults out.old ≤ K.faults out.new }
 {
-    write_all(out, line_of_count(blocks).as_slice())?;
+    write_all(out, line_of_count(b"accepted ", blocks).as_slice())?;
     let mut left = Develop::new(problem);
     while let Some(block) = left.next() {
         write_all(out, line_of_block(problem, &block).as_slice())?;

@@ -3,7 +3,12 @@ ghost use Rattle.std.specs.Prelude.{◌≡◌, ◌⊎◌, ◌≤◌, ◌^◌, le
 ghost use Rattle.df_run.specs.Answers.{answer, answer_on, verdict_status};
 ghost use Rattle.df_run.specs.Endings.{EndsAs, Replies, RepliesOr, VerifiesBalance, AnswersBalance, TellsBalance};
 
+use crate::limits::{LimitError, line_of_limit};
 use crate::lines::{line_of_refusal, usage_line};
+use crate::matrix::matrix_of_problem;
+use crate::matrix_texts::write_matrix;
+use crate::orbit_texts::write_orbits;
+use crate::orbits::orbits_of_problem;
 use crate::status::Status;
 use crate::texts::{write_canonical, write_table, write_verdict};
 use crate::words::{Command, read_words};
@@ -83,6 +88,8 @@ fn answer_problem<O: Sink>(
         Command::Show => ended(Status::Done, write_canonical(problem, out)),
         Command::Table => table_problem(alloc, problem, out),
         Command::Verify => verify_problem(alloc, problem, out),
+        Command::Orbits => orbits_problem(alloc, problem, out),
+        Command::Matrix => matrix_problem(alloc, problem, out),
     }
 }
 
@@ -106,6 +113,34 @@ fn verify_problem<O: Sink>(alloc: Global, problem: &Problem, out: &mut O) -> Sta
     match verify(alloc, problem) {
         Err(_) => Status::OutOfMemory,
         Ok(verdict) => ended(status(&verdict), write_verdict(problem, verdict, out)),
+    }
+}
+
+// Answers `orbits` to a problem.
+fn orbits_problem<O: Sink>(alloc: Global, problem: &Problem, out: &mut O) -> Status
+    ensures reply { RepliesOr (answer_on Command.Orbits problem.now) (O.written out.old) (O.written out.new) (O.faults out.old) (O.faults out.new) result }
+    ensures writes { O.faults out.old ≤ O.faults out.new }
+{
+    match orbits_of_problem(alloc, problem) {
+        Ok((pairs, blocks)) => ended(Status::Done, write_orbits(problem, &pairs, &blocks, out)),
+        Err(LimitError::Above(limit)) => {
+            told(Status::BadInput, line_of_limit(limit).as_slice(), out)
+        }
+        Err(LimitError::OutOfMemory) => Status::OutOfMemory,
+    }
+}
+
+// Answers `matrix` to a problem.
+fn matrix_problem<O: Sink>(alloc: Global, problem: &Problem, out: &mut O) -> Status
+    ensures reply { RepliesOr (answer_on Command.Matrix problem.now) (O.written out.old) (O.written out.new) (O.faults out.old) (O.faults out.new) result }
+    ensures writes { O.faults out.old ≤ O.faults out.new }
+{
+    match matrix_of_problem(alloc, problem) {
+        Ok(matrix) => ended(Status::Done, write_matrix(&matrix, out)),
+        Err(LimitError::Above(limit)) => {
+            told(Status::BadInput, line_of_limit(limit).as_slice(), out)
+        }
+        Err(LimitError::OutOfMemory) => Status::OutOfMemory,
     }
 }
 

@@ -11,6 +11,10 @@ pub enum Command {
     Table,
     /// Whether a family is what it states, and its development.
     Verify,
+    /// The classes of pairs and of blocks under the maps of a problem.
+    Orbits,
+    /// The orbit matrix of a problem.
+    Matrix,
 }
 
 /// The words aren't those of a command.
@@ -44,6 +48,8 @@ fn named(word: &str) -> Option<Command>
         "show" => Some(Command::Show),
         "table" => Some(Command::Table),
         "verify" => Some(Command::Verify),
+        "orbits" => Some(Command::Orbits),
+        "matrix" => Some(Command::Matrix),
         _ => None,
     }
 }
