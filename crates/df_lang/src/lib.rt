@@ -40,7 +40,7 @@ mod words;
 pub use canonical::{canonical_lines_are_short, line_count, print};
 pub use fault::{Needed, ParseError, SourceError, SourceFault};
 pub use parts::{Inside, Kind, Member, Name, Which};
-pub use problem::Problem;
+pub use problem::{MOST_BLOCKS, MOST_TARGET, NAMES_LIMIT, Problem};
 pub use read_points::read_point;
 pub use round_trip::{canonical_lines_are_read_back, problem_is_read_back};
 pub use rules::{problems_keep_their_rules, sources_keep_their_rules};
