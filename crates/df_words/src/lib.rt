@@ -11,3 +11,6 @@ mod words;
 pub use command::Command;
 pub use laws::commands_are_their_lines;
 pub use words::{UsageFault, read_words};
+
+#[cfg(test)]
+mod tests;
