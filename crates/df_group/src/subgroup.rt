@@ -133,14 +133,19 @@ impl Subgroup {
         self.has(shape.sub(a, b))
     }
 
-    // The subgroup with one more generator: all sums of a multiple of it and a member.
+    // The subgroup with one more generator: the cosets by its multiples, up to the first multiple that is in already.
     fn extended(&self, shape: &Shape, generator: Elem) -> Subgroup
-        requires { generator < order_of shape.now }
+        requires subgroup { IsSubgroup shape.now self.now }
+        requires generator { generator < order_of shape.now }
         ensures { (gs : List ℕ) → self.now ≡ generated shape.now gs → result ≡ generated shape.now (generator ∷ gs) }
     {
-        let mut extended = Subgroup::empty();
-        for c in 0..shape.exponent() {
-            extended.put_coset(shape, self, shape.times(u32::from(c), generator));
+        let mut extended = *self;
+        for c in 1..shape.exponent() {
+            let multiple = shape.times(u32::from(c), generator);
+            if self.has(multiple) {
+                return extended;
+            }
+            extended.put_coset(shape, self, multiple);
         }
         extended
     }
