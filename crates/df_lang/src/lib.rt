@@ -27,6 +27,7 @@ mod reader;
 #[cfg(test)]
 mod reading_tests;
 mod round_trip;
+mod rules;
 mod sizes;
 mod sources;
 mod state;
@@ -42,6 +43,7 @@ pub use parts::{Inside, Kind, Member, Name, Which};
 pub use problem::Problem;
 pub use read_points::read_point;
 pub use round_trip::{canonical_lines_are_read_back, problem_is_read_back};
+pub use rules::{problems_keep_their_rules, sources_keep_their_rules};
 pub use sources::parse;
 pub use targets::target;
 pub use texts::{block_text_is_short, point_text_is_short, put_block, put_point};
