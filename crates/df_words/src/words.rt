@@ -42,8 +42,8 @@ pub fn read_words(words: &[String]) -> Result<Command, UsageFault>
     ensures fault { IfErr result (λ fault. IsFirstFault (map string_bytes words.now) fault.word) }
 {
     let mut reading = Reading::Start;
-    for place in 0..words.len() {
-        match step(reading, words[place].as_str()) {
+    for (place, word) in words.iter().enumerate() {
+        match step(reading, word.as_str()) {
             Some(next) => reading = next,
             None => return Err(UsageFault { word: place + 1 }),
         }
