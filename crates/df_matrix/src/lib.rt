@@ -8,11 +8,13 @@ mod classes;
 mod columns;
 #[cfg(test)]
 mod comparisons;
+mod designs;
 mod matrix;
 mod rows;
 #[cfg(test)]
 mod tests;
 
+pub use designs::matrix_tells_designs;
 pub use matrix::{MOST_COLUMNS, MOST_ENTRIES, MatrixError, OrbitMatrix, build};
 
 /// Want of memory.
