@@ -1,8 +1,7 @@
 mod AllCells
 mod CellEntries
 mod CellTests
-mod ClassParts
-mod EntryReads
+mod OrbitParts
 mod MarkLists
 mod NeededCells
 mod OrbitCells

@@ -4,16 +4,18 @@
 #![tactic(auto)]
 
 mod cells;
-mod classes;
 mod columns;
 #[cfg(test)]
 mod comparisons;
 mod matrix;
+mod orbits;
 mod rows;
 #[cfg(test)]
 mod tests;
 
+pub use cells::OrbitCells;
 pub use matrix::{MOST_COLUMNS, MOST_ENTRIES, MatrixError, OrbitMatrix, build};
+pub use orbits::ProblemOrbits;
 
 /// Want of memory.
 pub type OutOfMemory = std::alloc::AllocError;

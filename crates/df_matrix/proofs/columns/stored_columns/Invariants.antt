@@ -1,6 +1,7 @@
 use Rattle.std.proofs.Common.{take}
-use Rattle.df_matrix.specs.MatrixParts.{AreStored, all_cells, orbit_at}
+use Rattle.df_matrix.specs.MatrixParts.{AreStored}
+use Rattle.df_kramer_mesner.specs.OrbitSystems.{cells_of, orbit_at}
 use Rattle.df_matrix.proofs.columns.stored_columns.Given as goal
 
-abbrev pub invariant-loop-orbit : goal.invariant-loop-orbit
-invariant-loop-orbit l = AreStored (λ orbit. all_cells l.classes (orbit_at l.classes orbit)) (take l.orbit-index l.orbits) l.starts.items l.cells.items
+abbrev pub invariant-loop-number : goal.invariant-loop-number
+invariant-loop-number l = AreStored (λ orbit. cells_of l.orbits (orbit_at l.orbits orbit)) (take l.number-index l.numbers) l.starts.items l.cells.items
