@@ -13,7 +13,7 @@ mod rows;
 #[cfg(test)]
 mod tests;
 
-pub use matrix::{MatrixError, OrbitMatrix, build};
+pub use matrix::{MOST_COLUMNS, MOST_ENTRIES, MatrixError, OrbitMatrix, build};
 
 /// Want of memory.
 pub type OutOfMemory = std::alloc::AllocError;
