@@ -13,12 +13,13 @@ use Rattle.df_acting.specs.Earliest.{is_earliest}
 use Rattle.df_maps.specs.FullMaps.{full_maps, image}
 use Rattle.df_lang.specs.Problems.{Stated, point_count}
 use Rattle.df_system.specs.Storage.{positive_cells}
+use Rattle.df_system.proofs.PositiveCells.{positive_cells-append}
 use Rattle.df_kramer_mesner.specs.OrbitSystems.{maps_of_problem, all_blocks, has_alike, pairs_of, orbits_of, needed_of, pair_entry, needed_entry, pair_target, entries_of, targets_of, columns_of, is_kept, column_number, cells_of, orbit_at}
 use Rattle.df_kramer_mesner.specs.Laws.{AreNumbered}
 use Rattle.df_orbits.proofs.ClassNumbers.{sorted-filter}
 use Rattle.df_matrix.specs.MatrixParts.{pair_cells, needed_places, kept_places}
 use Rattle.df_matrix.proofs.CellTests.{all_within, within_append, within_cells, within_ones}
-use Rattle.df_matrix.proofs.NeededCells.{positive_append, no_own_row, own_row}
+use Rattle.df_matrix.proofs.NeededCells.{no_own_row, own_row}
 use Rattle.df_matrix.proofs.PlaceLists.{block_at_place, place_listed, place_passes}
 use Rattle.df_kramer_mesner.proofs.OrbitNumbers.{In-slice_get}
 
@@ -33,7 +34,7 @@ module _ (s : Stated) (orbit : ℕ) where
   b = orbit_at s orbit
 
   both : cells_of s b ≡ pair_cells s b ++ positive_cells (length (pairs_of s)) (map (needed_entry b) (needed_of s))
-  both = positive_append 0 (map (pair_entry s b) (pairs_of s)) (map (needed_entry b) (needed_of s)) ∙ ap (λ m. pair_cells s b ++ positive_cells m (map (needed_entry b) (needed_of s))) {x = 0 + length (map (pair_entry s b) (pairs_of s))} {y = length (pairs_of s)} (omega (arith, length-map (pairs_of s) (pair_entry s b)))
+  both = positive_cells-append 0 (map (pair_entry s b) (pairs_of s)) (map (needed_entry b) (needed_of s)) ∙ ap (λ m. pair_cells s b ++ positive_cells m (map (needed_entry b) (needed_of s))) {x = 0 + length (map (pair_entry s b) (pairs_of s))} {y = length (pairs_of s)} (omega (arith, length-map (pairs_of s) (pair_entry s b)))
 
   -- an orbit with a required block has a row of its own
   pub cells_own : AreOrdered → CandidatesAreAll → orbit < length (orbits_of s) → (place : ℕ) → slice_get (needed_places s) place ≡ Some orbit → cells_of s b ≡ pair_cells s b ++ record { row = length (pairs_of s) + place; value = 1 } ∷ []

@@ -9,7 +9,6 @@ mod PairLists
 mod PlaceLists
 mod RisingCells
 mod RowLists
-mod StoredColumns
 mod SubsetLimits
 mod SystemColumns
 mod Tallies

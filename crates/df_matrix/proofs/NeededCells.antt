@@ -11,19 +11,7 @@ use Rattle.df_system.specs.Storage.{positive_cells}
 use Rattle.df_kramer_mesner.specs.OrbitSystems.{needed_entry}
 use Rattle.df_kramer_mesner.proofs.OrbitNumbers.{In-slice_get}
 
-pub positive_append : (m : ℕ) (xs ys : List ℕ) → positive_cells m (xs ++ ys) ≡ positive_cells m xs ++ positive_cells (m + length xs) ys
-positive_append m [] ys = ap (λ k. positive_cells k ys) {x = m} {y = m + 0} (omega arith)
-positive_append m (x ∷ xs) ys =
-    let ih = positive_append (m + 1) xs ys ∙ ap (λ k. positive_cells (m + 1) xs ++ positive_cells k ys) {x = m + 1 + length xs} {y = m + suc (length xs)} (omega arith) in
-    step x ih
-  where
-    step : (x : ℕ) → positive_cells (m + 1) (xs ++ ys) ≡ positive_cells (m + 1) xs ++ positive_cells (m + suc (length xs)) ys → positive_cells m (x ∷ (xs ++ ys)) ≡ positive_cells m (x ∷ xs) ++ positive_cells (m + suc (length xs)) ys
-    step zero ih = ih
-    step (suc x) ih =
-        let one = lt-ltb 0 (suc x) (omega arith) in
-        rw (one) (ap (λ l. record { row = m; value = suc x } ∷ l) ih)
-
-pub not_true : (b : Bool) → (b ≡ true → ⊥) → b ≡ false
+not_true : (b : Bool) → (b ≡ true → ⊥) → b ≡ false
 not_true true h = absurd (h refl)
 not_true false h = refl
 

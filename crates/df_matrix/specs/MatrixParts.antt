@@ -10,7 +10,7 @@ use Rattle.df_orbits.specs.OrbitClasses.{pair_classes, block_classes}
 use Rattle.df_matrix.specs.declared.matrix.TheConstants.{MOST_COLUMNS}
 use Rattle.df_walk.specs.declared.Cell.{Cell}
 use Rattle.df_walk.specs.Systems.{System}
-use Rattle.df_system.specs.Storage.{positive_cells, AreStarts, columns_of}
+use Rattle.df_system.specs.Storage.{positive_cells}
 use Rattle.df_kramer_mesner.specs.OrbitSystems.{maps_of_problem, alike, all_blocks, pairs_of, orbits_of, pair_at, has_alike, row_size, pair_entry, is_kept, orbit_system}
 
 -- the maps, the orbits of pairs and of blocks, and the maps of the numbers of pairs, are those of the problem, and there are few blocks
@@ -42,13 +42,6 @@ quotient_cell s size cell = record { row = cell.row; value = (size * cell.value)
 -- the positive entries of an orbit in the rows of pairs
 abbrev pub pair_cells : Stated → List ℕ → List Cell
 pair_cells s b = positive_cells 0 (map (pair_entry s b) (pairs_of s))
-
--- columns of so many numbers, stored one after another
-pub record AreStored (column : ℕ → List Cell) (numbers : List ℕ) (starts : List ℕ) (cells : List Cell) : Type 0 where
-  pub starts_are : AreStarts starts (length cells)
-  pub columns_are : columns_of starts cells ≡ map column numbers
-  pub count : length starts ≡ length numbers + 1
-  pub few : length cells ≤ 121 * length numbers
 
 -- the places of the listed blocks that pass a test, increasing
 abbrev pub places_where : (List ℕ → Bool) → List (List ℕ) → List ℕ

@@ -5,7 +5,7 @@ ghost use Rattle.std.specs.List.Sorted.{IsStrictlyIncreasing};
 ghost use Rattle.df_lists.specs.Membership.{In};
 ghost use Rattle.df_lang.specs.Problems.{point_count, IsBlock, IsStated};
 ghost use Rattle.df_kramer_mesner.specs.OrbitSystems.{pairs_of, orbits_of, needed_of, pair_target, targets_of as all_targets, has_alike, is_kept, orbit_system, orbit_at, cells_of};
-ghost use Rattle.df_matrix.specs.MatrixParts.{needed_places, kept_places, AreStored};
+ghost use Rattle.df_matrix.specs.MatrixParts.{needed_places, kept_places};
 
 use crate::OutOfMemory;
 use crate::cells::{OrbitCells, fit, pair_cells};
@@ -15,7 +15,7 @@ use df_kramer_mesner::{columns_are_sparse, orbit_systems_are_systems, rows_are_p
 use df_lang::target;
 use df_orbits::MOST_SUMMED;
 use df_subsets::{Block, blocks_are_ordered, candidates_are_all};
-use df_system::{Cell, System, SystemError};
+use df_system::{Cell, Columns, System, SystemError};
 use std::alloc::{AllocError, Global};
 
 // No mark at any orbit.
@@ -26,7 +26,11 @@ fn no_marks(alloc: Global, count: usize) -> Result<Vec<bool>, OutOfMemory>
 }
 
 /// For each orbit, whether it has one of the listed blocks.
-pub fn marked(alloc: Global, orbits: &ProblemOrbits, blocks: &[Block]) -> Result<Vec<bool>, OutOfMemory>
+pub fn marked(
+    alloc: Global,
+    orbits: &ProblemOrbits,
+    blocks: &[Block],
+) -> Result<Vec<bool>, OutOfMemory>
     requires { All (IsBlock (point_count orbits.now) orbits.now.sizes) blocks.now }
     ensures { IfOk result (λ marks. marks.items ≡ map (has_alike orbits.now blocks.now) (orbits_of orbits.now)) }
 {
@@ -65,7 +69,11 @@ fn pair_targets(alloc: Global, orbits: &ProblemOrbits) -> Result<Vec<u32>, OutOf
 }
 
 /// The targets of the rows: those of the pairs, and 1 for each orbit with a required block.
-pub fn targets_of(alloc: Global, orbits: &ProblemOrbits, needed: usize) -> Result<Vec<u32>, OutOfMemory>
+pub fn targets_of(
+    alloc: Global,
+    orbits: &ProblemOrbits,
+    needed: usize,
+) -> Result<Vec<u32>, OutOfMemory>
     requires { needed ≡ length (needed_of orbits.now) }
     ensures { IfOk result (λ targets. targets.items ≡ all_targets orbits.now) }
 {
@@ -150,49 +158,23 @@ pub fn orbit_cells(orbits: &ProblemOrbits, needed: &[u32], orbit: usize) -> Orbi
     }
 }
 
-// Adds the cells of an orbit.
-fn add_column(
-    cells: &mut Vec<Cell>,
-    orbits: &ProblemOrbits,
-    needed: &[u32],
-    orbit: u32,
-) -> Result<(), OutOfMemory>
-    requires orbit { orbit < length (orbits_of orbits.now) }
-    requires needed { needed.now ≡ needed_places orbits.now }
-    ensures cells { IfOk result (λ _. cells.new.items ≡ cells.old.items ++ cells_of orbits.now (orbit_at orbits.now orbit)) }
-    ensures few { IfOk result (λ _. length (cells_of orbits.now (orbit_at orbits.now orbit)) ≤ 121) }
-{
-    cells.extend_from_slice(orbit_cells(orbits, needed, orbit as usize).as_slice())?;
-    Ok(())
-}
-
-// The cells of all columns, and where each column's start.
-#[derive(Drop)]
-struct Stored {
-    starts: Vec<u32>,
-    cells: Vec<Cell>,
-}
-
 // The columns of these orbits.
-fn stored_columns(
+fn columns_of(
     alloc: Global,
     orbits: &ProblemOrbits,
     needed: &[u32],
     numbers: &[u32],
-) -> Result<Stored, OutOfMemory>
+) -> Result<Columns, OutOfMemory>
     requires needed { needed.now ≡ needed_places orbits.now }
     requires numbers { All (λ orbit. orbit < length (orbits_of orbits.now)) numbers.now }
     requires few { length numbers.now ≤ MOST_COLUMNS }
-    ensures { IfOk result (λ columns. AreStored (λ orbit. cells_of orbits.now (orbit_at orbits.now orbit)) numbers.now columns.starts.items columns.cells.items) }
+    ensures columns { IfOk result (λ columns. columns ≡ map (λ orbit. cells_of orbits.now (orbit_at orbits.now orbit)) numbers.now) }
 {
-    let mut starts = Vec::with_capacity(alloc, numbers.len() + 1)?;
-    let mut cells = Vec::new(alloc);
-    starts.push(0)?;
+    let mut columns = Columns::with_capacity(alloc, numbers.len(), 0)?;
     for number in numbers {
-        add_column(&mut cells, orbits, needed, *number)?;
-        starts.push(cells.len() as u32)?;
+        columns.push(orbit_cells(orbits, needed, *number as usize).as_slice())?;
     }
-    Ok(Stored { starts, cells })
+    Ok(columns)
 }
 
 /// The system of the kept orbits.
@@ -210,10 +192,10 @@ pub fn system_of(
     requires few { length kept.now ≤ MOST_COLUMNS }
     ensures { IfOk result (λ system. system ≡ orbit_system orbits.now) }
 {
-    let Stored { starts, cells } = stored_columns(alloc, orbits, needed, kept)?;
+    let columns = columns_of(alloc, orbits, needed, kept)?;
     orbit_systems_are_systems();
     columns_are_sparse();
-    match System::sparse(alloc, targets, starts, cells) {
+    match System::from_columns(alloc, targets, columns) {
         Ok(system) => Ok(system),
         Err(SystemError::OutOfMemory) => Err(AllocError),
         Err(SystemError::ZeroColumn(_)) => unreachable!(),

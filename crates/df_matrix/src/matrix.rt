@@ -211,7 +211,11 @@ fn needed_numbers(alloc: Global, orbits: &ProblemOrbits) -> Result<Vec<u32>, All
 }
 
 // The numbers of the orbits that are kept.
-fn kept_numbers(alloc: Global, orbits: &ProblemOrbits, targets: &[u32]) -> Result<Vec<u32>, AllocError>
+fn kept_numbers(
+    alloc: Global,
+    orbits: &ProblemOrbits,
+    targets: &[u32],
+) -> Result<Vec<u32>, AllocError>
     requires { targets.now ≡ all_targets orbits.now }
     ensures { IfOk result (λ kept. kept.items ≡ kept_places orbits.now) }
 {

@@ -94,7 +94,12 @@ fn judge_blocks(problem: &Problem) -> Result<(), MatrixError>
 {
     let points = problem.points();
     let sizes = all_sizes(problem);
-    judge_count(problem.version, points, sizes[0], count_blocks(points, sizes))
+    judge_count(
+        problem.version,
+        points,
+        sizes[0],
+        count_blocks(points, sizes),
+    )
 }
 
 // The orbits of a problem that hasn't too many blocks.
@@ -139,6 +144,13 @@ impl ProblemOrbits {
         ensures { result.now ≡ self.now }
     {
         &self.problem
+    }
+
+    /// The maps x -> mx + h of the problem.
+    pub fn maps(&self) -> &Maps
+        ensures { result.now ≡ maps_of_problem self.now }
+    {
+        &self.maps
     }
 
     /// The orbits of pairs of points.

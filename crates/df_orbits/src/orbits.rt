@@ -176,11 +176,7 @@ pub fn sized_orbits(alloc: Global, maps: &Maps, sizes: &[u8]) -> Result<Orbits, 
 
 /// The orbits of all blocks that have one of the sizes, numbered together, under the maps of a table that is there already.
 /// The sizes increase strictly from 2 to the number of points, there is one, and there are at most `MOST_SUMMED` such blocks.
-pub fn orbits_of_sizes(
-    alloc: Global,
-    images: &Images,
-    sizes: &[u8],
-) -> Result<Orbits, OutOfMemory>
+pub fn orbits_of_sizes(alloc: Global, images: &Images, sizes: &[u8]) -> Result<Orbits, OutOfMemory>
     requires some { 0 < length sizes.now }
     requires rising { IsStrictlyIncreasing sizes.now }
     requires range { All (λ k. (2 ≤ k) × (k ≤ point_count images.now)) sizes.now }
