@@ -1,42 +1,31 @@
 -- How many translates of a block hold two points.
-use Rattle.std.proofs.Common.{◌≡◌, ℕ, zero, suc, ◌+◌, ◌-◌, ◌*◌, ◌/◌, ◌<◌, ◌≤◌, Bool, true, false, cond, eqb, nat_lt, ◌&&◌, List, [], ◌∷◌, filter, map, length, refl, sym, ap, ◌∙◌, inl, inr, arith, lt-ltb, le-ltb, mul_comm, mul-div_cancel, count_by}
+use Rattle.std.proofs.Common.{◌≡◌, ℕ, zero, suc, ◌+◌, ◌*◌, ◌/◌, ◌<◌, ◌≤◌, Bool, true, false, cond, eqb, nat_lt, ◌&&◌, List, [], ◌∷◌, filter, map, length, refl, sym, ap, ◌∙◌, inl, inr, arith, lt-ltb, le-ltb, mul_comm, mul-div_cancel, count_by, sum_by}
 use Rattle.std.specs.List.{range_with_len}
 use Rattle.std.proofs.lemmas.Slice.Eq.{bytes_eq-Decides}
 use Rattle.std.proofs.lemmas.Bool.{cases_lt}
+use Rattle.std.proofs.lemmas.List.{length-map}
 use Rattle.df_lists.specs.NumberSets.{has_member, IsSet}
 use Rattle.df_lists.specs.Totals.{total, one}
-use Rattle.df_lists.specs.LeastMembers.{is_least}
 use Rattle.df_lists.proofs.TotalLaws.{total_same, total_turn, total_at, total_zero}
-use Rattle.df_lists.proofs.LeastLaws.{leasts}
-use Rattle.df_lists.proofs.CountLaws.{cb, sb, cb_is, sb_is, cb_map, cb_filter, sb_filter, sb_range}
+use Rattle.df_lists.proofs.CountLaws.{cb, sb, cb_is, sb_is, cb_map, sb_filter, sb_range}
 use Rattle.df_group.specs.Elements.{order_of, group_of, IsGroup, minus}
-use Rattle.df_group.proofs.GroupLaws.{far, same_test, turns_minus}
+use Rattle.df_group.specs.Subgroups.{same_coset}
+use Rattle.df_group.specs.ClosedSets.{IsClosed}
+use Rattle.df_group.proofs.GroupLaws.{far, same_test, turns_minus, minus_minus}
 use Rattle.df_lang.specs.declared.parts.Kind.{Kind}
 use Rattle.df_lang.specs.declared.parts.Kind.TheVariants as kinds
 use Rattle.df_lang.specs.Problems.{Stated, point_count}
 use Rattle.df_lang.specs.Balance.{holds}
-use Rattle.df_family.specs.declared.table.Row.{Row}
-use Rattle.df_family.specs.declared.table.Row.TheVariants.{Diff, WithFixed, TwoFixed}
-use Rattle.df_family.specs.Translates.{elements, translate, same_translate, stabilizer}
-use Rattle.df_family.specs.Developments.{is_listed, translates}
-use Rattle.df_family.specs.Tables.{fixed_point, finite_points, occurs, summand_of}
-use Rattle.df_family.proofs.TranslateLaws.{shifted_finite, shifted_fixed, hit, sameness, class_size, stabilizer_some}
-
-cb_sb : {X : Type 0} (t : X → Bool) (xs : List X) → cb t xs ≡ sb (λ x. one (t x)) xs
-cb_sb t [] = refl
-cb_sb t (x ∷ xs) = ap (λ n. one (t x) + n) (cb_sb t xs)
-
-pub length_sb : {X : Type 0} (xs : List X) → length xs ≡ sb (λ x. 1) xs
-length_sb [] = refl
-length_sb (x ∷ xs) = let ih = length_sb xs in omega arith
+use Rattle.df_family.specs.Translates.{translate, same_translate, stabilizer_under}
+use Rattle.df_family.specs.Developments.{is_listed, translates_under}
+use Rattle.df_family.specs.Tables.{finite_points}
+use Rattle.df_family.specs.Covers.{coset_points, occurs_at, summand_at}
+use Rattle.df_family.proofs.TranslateLaws.{shifted_finite, shifted_fixed, hit}
+use Rattle.df_family.proofs.ShiftLaws.{cb_sb, length_sb, sb_set, sum_listed, stabilizer_some}
 
 nothing : (v : Bool) (z : ℕ) → z ≡ 0 → cond v z 0 ≡ 0
 nothing true z h = h
 nothing false z h = refl
-
-pub total_ones : (n : ℕ) → total (λ i. 1) n ≡ n
-total_ones zero = refl
-total_ones (suc n) = let ih = total_ones n in omega arith
 
 -- what is nothing past n
 total_front : (b : ℕ → Bool) (F : ℕ → ℕ) (n m : ℕ) → total (λ x. cond (b x) (cond (nat_lt x n) (F x) 0) 0) (m + n) ≡ total (λ x. cond (b x) (F x) 0) n
@@ -49,15 +38,29 @@ total_front b F n (suc m) =
     let past : cond (b (m + n)) (cond (nat_lt (m + n) n) (F (m + n)) 0) 0 ≡ 0 = nothing (b (m + n)) (cond (nat_lt (m + n) n) (F (m + n)) 0) (rw (le-ltb (m + n) n (omega arith)) refl) in
     ap (total (λ x. cond (b x) (cond (nat_lt x n) (F x) 0) 0)) e ∙ (omega arith)
 
--- the row of a pair of points
-abbrev pub kind : Stated → ℕ → ℕ → Row
-kind s p q = cond (nat_lt q (order_of s.group)) (Diff (minus (group_of s.group) q p)) (cond (nat_lt p (order_of s.group)) (WithFixed (q - order_of s.group + 1)) (TwoFixed (p - order_of s.group + 1) (q - order_of s.group + 1)))
+sb_same : {X : Type 0} (f g : X → ℕ) (xs : List X) → ((x : X) → f x ≡ g x) → sb f xs ≡ sb g xs
+sb_same f g [] h = refl
+sb_same f g (x ∷ xs) h = let e = h x in let ih = sb_same f g xs h in omega arith
 
-pub fixed_back : (s : Stated) (p : ℕ) → order_of s.group ≤ p → fixed_point s (p - order_of s.group + 1) ≡ p
-fixed_back s p h = omega arith
+sb_none : {X : Type 0} (xs : List X) → sb (λ x. 0) xs ≡ 0
+sb_none [] = refl
+sb_none (x ∷ xs) = let ih = sb_none xs in omega arith
 
-module _ (s : Stated) (is : IsGroup (group_of s.group)) (block : List ℕ) (set : IsSet (point_count s) block) where
-  pub sb_finite : (F : ℕ → ℕ) → sb F (finite_points s block) ≡ total (λ x. cond (has_member block x) (F x) 0) (order_of s.group)
+all_kept : (xs : List ℕ) → filter (λ g. true) xs ≡ xs
+all_kept [] = refl
+all_kept (x ∷ xs) = ap (λ l. x ∷ l) (all_kept xs)
+
+both_turned : (v w : Bool) (z : ℕ) → cond v (cond w z 0) 0 ≡ cond w (cond v z 0) 0
+both_turned true w z = refl
+both_turned false true z = refl
+both_turned false false z = refl
+
+and_cond : (v w : Bool) → one (v && w) ≡ cond v (one w) 0
+and_cond true w = refl
+and_cond false w = refl
+
+module _ (s : Stated) (is : IsGroup (group_of s.group)) (shifts : List ℕ) (closed : IsClosed s.group shifts) (block : List ℕ) (set : IsSet (point_count s) block) where
+  sb_finite : (F : ℕ → ℕ) → sb F (finite_points s block) ≡ total (λ x. cond (has_member block x) (F x) 0) (order_of s.group)
   sb_finite F =
       let n = order_of s.group in
       let whole : n + s.fixed ≡ s.fixed + n = omega arith in
@@ -66,15 +69,32 @@ module _ (s : Stated) (is : IsGroup (group_of s.group)) (block : List ℕ) (set 
       ∙ ap (total (λ x. cond (has_member block x) (cond (nat_lt x n) (F x) 0) 0)) whole
       ∙ total_front (has_member block) F n s.fixed
 
-  -- how many elements g give a translate that holds both points
+  sb_coset : (F : ℕ → ℕ) (p : ℕ) → sb F (coset_points s shifts block p) ≡ total (λ x. cond (same_coset s.group shifts p x) (cond (has_member block x) (F x) 0) 0) (order_of s.group)
+  sb_coset F p =
+      let n = order_of s.group in
+      sb_filter (same_coset s.group shifts p) F (finite_points s block) ∙ sb_finite (λ x. cond (same_coset s.group shifts p x) (F x) 0)
+      ∙ total_same (λ x. cond (has_member block x) (cond (same_coset s.group shifts p x) (F x) 0) 0) (λ x. cond (same_coset s.group shifts p x) (cond (has_member block x) (F x) 0) 0) n (λ x h.
+      both_turned (has_member block x) (same_coset s.group shifts p x) (F x))
+
+  -- how many shifts give a translate that holds both points
   abbrev pub covers : ℕ → ℕ → ℕ
-  covers p q = total (λ g. one (holds (translate s block g) p q)) (order_of s.group)
+  covers p q = sb (λ g. one (holds (translate s block g) p q)) shifts
 
   from_finite : (g p : ℕ) → p < order_of s.group → has_member (translate s block g) p ≡ has_member block (minus (group_of s.group) p g)
   from_finite g p h = hit s is block g p (omega arith) ∙ ap (has_member block) (shifted_finite s is ((group_of s.group).neg g) p h)
 
   from_fixed : (g p : ℕ) → order_of s.group ≤ p → p < point_count s → has_member (translate s block g) p ≡ has_member block p
   from_fixed g p h k = hit s is block g p k ∙ ap (has_member block) (shifted_fixed s is ((group_of s.group).neg g) p h)
+
+  -- a sum over the shifts, along the points that they carry to p
+  along : (T : ℕ → ℕ) (p : ℕ) → p < order_of s.group → sb (λ g. T (minus (group_of s.group) p g)) shifts ≡ total (λ x. cond (same_coset s.group shifts p x) (T x) 0) (order_of s.group)
+  along T p h =
+      let G = group_of s.group in
+      let n = order_of s.group in
+      let U : ℕ → ℕ = λ x. cond (same_coset s.group shifts p x) (T x) 0 in
+      sb_set n shifts (λ g. T (minus G p g)) closed.set
+      ∙ total_same (λ g. cond (has_member shifts g) (T (minus G p g)) 0) (λ g. U (minus G p g)) n (λ g l. ap (λ x. cond (has_member shifts x) (T (minus G p g)) 0) (sym (minus_minus G is p g h l)))
+      ∙ total_turn U n (minus G p) (minus G p) (turns_minus G is p h)
 
   -- how many points have the difference d from x
   partners : (x d : ℕ) → d < order_of s.group → count_by (λ a. eqb (minus (group_of s.group) a x) d) (finite_points s block) ≡ one (has_member block ((group_of s.group).plus x d))
@@ -92,63 +112,64 @@ module _ (s : Stated) (is : IsGroup (group_of s.group)) (block : List ℕ) (set 
       turn_cond false true = refl
       turn_cond false false = refl
 
-  covers_diff : (p q : ℕ) → p < order_of s.group → q < order_of s.group → covers p q ≡ occurs s (Diff (minus (group_of s.group) q p)) block
+  covers_diff : (p q : ℕ) → p < order_of s.group → q < order_of s.group
+      → covers p q ≡ sum_by (λ b. count_by (λ a. eqb (minus (group_of s.group) a b) (minus (group_of s.group) q p)) (finite_points s block)) (coset_points s shifts block p)
   covers_diff p q h k =
+      let G = group_of s.group in
       let n = order_of s.group in
-      let d = minus (group_of s.group) q p in
-      let T : ℕ → ℕ = λ x. one (has_member block x && has_member block ((group_of s.group).plus x d)) in
-      let F : ℕ → ℕ = λ x. count_by (λ a. eqb (minus (group_of s.group) a x) d) (finite_points s block) in
-      total_same (λ g. one (holds (translate s block g) p q)) (λ g. T (minus (group_of s.group) p g)) n (λ g l. both g)
-      ∙ total_turn T n (minus (group_of s.group) p) (minus (group_of s.group) p) (turns_minus (group_of s.group) is p h)
-      ∙ total_same T (λ x. cond (has_member block x) (F x) 0) n (λ x l. and_cond (has_member block x) (has_member block ((group_of s.group).plus x d)) ∙ ap (λ m. cond (has_member block x) m 0) (sym (partners x d (is.within q ((group_of s.group).neg p)))))
-      ∙ sym (sb_finite F) ∙ sb_is F (finite_points s block)
+      let d = minus G q p in
+      let T : ℕ → ℕ = λ x. one (has_member block x && has_member block (G.plus x d)) in
+      let F : ℕ → ℕ = λ x. count_by (λ a. eqb (minus G a x) d) (finite_points s block) in
+      sb_same (λ g. one (holds (translate s block g) p q)) (λ g. T (minus G p g)) shifts hits
+      ∙ along T p h
+      ∙ total_same (λ x. cond (same_coset s.group shifts p x) (T x) 0) (λ x. cond (same_coset s.group shifts p x) (cond (has_member block x) (F x) 0) 0) n (λ x l.
+      ap (λ z. cond (same_coset s.group shifts p x) z 0)
+      (and_cond (has_member block x) (has_member block (G.plus x d)) ∙ ap (λ m. cond (has_member block x) m 0) (sym (partners x d (is.within q (G.neg p))))))
+      ∙ sym (sb_coset F p) ∙ sb_is F (coset_points s shifts block p)
     where
-      and_cond : (v w : Bool) → one (v && w) ≡ cond v (one w) 0
-      and_cond true w = refl
-      and_cond false w = refl
-
-      both : (g : ℕ) → one (holds (translate s block g) p q) ≡ one (has_member block (minus (group_of s.group) p g) && has_member block ((group_of s.group).plus (minus (group_of s.group) p g) (minus (group_of s.group) q p)))
-      both g =
+      hits : (g : ℕ) → one (holds (translate s block g) p q) ≡ one (has_member block (minus (group_of s.group) p g) && has_member block ((group_of s.group).plus (minus (group_of s.group) p g) (minus (group_of s.group) q p)))
+      hits g =
           ap (λ v. one (v && has_member (translate s block g) q)) (from_finite g p h)
           ∙ ap (λ v. one (has_member block (minus (group_of s.group) p g) && v)) (from_finite g q k ∙ ap (has_member block) (far (group_of s.group) is p q g k))
 
-  covers_fixed : (p q : ℕ) → p < order_of s.group → order_of s.group ≤ q → q < point_count s → covers p q ≡ occurs s (WithFixed (q - order_of s.group + 1)) block
+  covers_fixed : (p q : ℕ) → p < order_of s.group → order_of s.group ≤ q → q < point_count s → covers p q ≡ cond (has_member block q) (length (coset_points s shifts block p)) 0
   covers_fixed p q h k l =
-      let n = order_of s.group in
       let T : ℕ → ℕ = λ x. one (has_member block x && has_member block q) in
-      total_same (λ g. one (holds (translate s block g) p q)) (λ g. T (minus (group_of s.group) p g)) n (λ g m.
+      sb_same (λ g. one (holds (translate s block g) p q)) (λ g. T (minus (group_of s.group) p g)) shifts (λ g.
       ap (λ v. one (v && has_member (translate s block g) q)) (from_finite g p h) ∙ ap (λ v. one (has_member block (minus (group_of s.group) p g) && v)) (from_fixed g q k l))
-      ∙ total_turn T n (minus (group_of s.group) p) (minus (group_of s.group) p) (turns_minus (group_of s.group) is p h)
+      ∙ along T p h
       ∙ by (has_member block q)
-      ∙ ap (λ r. cond (has_member block r) (length (finite_points s block)) 0) (sym (fixed_back s q k))
     where
       all_in : (v : Bool) → one (v && true) ≡ cond v 1 0
       all_in true = refl
       all_in false = refl
 
-      none_in : (v : Bool) → one (v && false) ≡ 0
-      none_in true = refl
-      none_in false = refl
+      none_in : (u v : Bool) → cond u (one (v && false)) 0 ≡ 0
+      none_in true true = refl
+      none_in true false = refl
+      none_in false v = refl
 
-      by : (v : Bool) → total (λ x. one (has_member block x && v)) (order_of s.group) ≡ cond v (length (finite_points s block)) 0
-      by true = total_same (λ x. one (has_member block x && true)) (λ x. cond (has_member block x) 1 0) (order_of s.group) (λ x l. all_in (has_member block x)) ∙ sym (sb_finite (λ x. 1)) ∙ sym (length_sb (finite_points s block))
-      by false = total_same (λ x. one (has_member block x && false)) (λ x. 0) (order_of s.group) (λ x l. none_in (has_member block x)) ∙ total_zero (order_of s.group)
+      by : (v : Bool) → total (λ x. cond (same_coset s.group shifts p x) (one (has_member block x && v)) 0) (order_of s.group) ≡ cond v (length (coset_points s shifts block p)) 0
+      by true =
+          total_same (λ x. cond (same_coset s.group shifts p x) (one (has_member block x && true)) 0) (λ x. cond (same_coset s.group shifts p x) (cond (has_member block x) 1 0) 0) (order_of s.group) (λ x m.
+          ap (λ z. cond (same_coset s.group shifts p x) z 0) (all_in (has_member block x)))
+          ∙ sym (sb_coset (λ x. 1) p) ∙ sym (length_sb (coset_points s shifts block p))
+      by false =
+          total_same (λ x. cond (same_coset s.group shifts p x) (one (has_member block x && false)) 0) (λ x. 0) (order_of s.group) (λ x m. none_in (same_coset s.group shifts p x) (has_member block x)) ∙ total_zero (order_of s.group)
 
-  covers_two : (p q : ℕ) → order_of s.group ≤ p → p < point_count s → order_of s.group ≤ q → q < point_count s → covers p q ≡ occurs s (TwoFixed (p - order_of s.group + 1) (q - order_of s.group + 1)) block
+  covers_two : (p q : ℕ) → order_of s.group ≤ p → p < point_count s → order_of s.group ≤ q → q < point_count s → covers p q ≡ cond (holds block p q) (length shifts) 0
   covers_two p q h i k l =
-      total_same (λ g. one (holds (translate s block g) p q)) (λ g. one (holds block p q)) (order_of s.group) (λ g m.
+      sb_same (λ g. one (holds (translate s block g) p q)) (λ g. one (holds block p q)) shifts (λ g.
       ap (λ v. one (v && has_member (translate s block g) q)) (from_fixed g p h i) ∙ ap (λ v. one (has_member block p && v)) (from_fixed g q k l))
       ∙ by (holds block p q)
-      ∙ ap (λ r. cond (holds block r q) (order_of s.group) 0) (sym (fixed_back s p h))
-      ∙ ap (λ r. cond (holds block (fixed_point s (p - order_of s.group + 1)) r) (order_of s.group) 0) (sym (fixed_back s q k))
     where
-      by : (v : Bool) → total (λ x. one v) (order_of s.group) ≡ cond v (order_of s.group) 0
-      by true = total_ones (order_of s.group)
-      by false = total_zero (order_of s.group)
+      by : (v : Bool) → sb (λ g. one v) shifts ≡ cond v (length shifts) 0
+      by true = sym (length_sb shifts)
+      by false = sb_none shifts
 
-  -- a row occurs as often as translates hold a pair of its kind
-  pub covers_kind : (p q : ℕ) → p < q → q < point_count s → covers p q ≡ occurs s (kind s p q) block
-  covers_kind p q h k =
+  -- as many shifts give a translate that holds two points as the block has them
+  pub covers_occurs : (p q : ℕ) → p < q → q < point_count s → covers p q ≡ occurs_at s shifts p q block
+  covers_occurs p q h k =
       elim (cases_lt q (order_of s.group)) [
         | inl l ↦ rw (lt-ltb q (order_of s.group) l) (covers_diff p q (omega arith) l)
         | inr r ↦
@@ -159,39 +180,30 @@ module _ (s : Stated) (is : IsGroup (group_of s.group)) (block : List ℕ) (set 
       ]
 
   -- how many different translates hold both points
-  abbrev pub firsts : ℕ → ℕ → ℕ
-  firsts p q = total (λ g. cond (is_least (same_translate s block) g) (one (holds (translate s block g) p q)) 0) (order_of s.group)
+  abbrev pub different : ℕ → ℕ → ℕ
+  different p q = sb (λ g. one (holds (translate s block g) p q)) (filter (is_listed s shifts kinds.Short block) shifts)
 
-  -- each translate is come to by as many elements as fix the block
-  pub covers_firsts : (p q : ℕ) → covers p q ≡ stabilizer s block * firsts p q
-  covers_firsts p q =
-      leasts (order_of s.group) (same_translate s block) (sameness s is block) (λ g. one (holds (translate s block g) p q)) (stabilizer s block)
-      (λ g h l m e. ap (λ b. one (holds b p q)) (sym ((bytes_eq-Decides (translate s block h) (translate s block g)).0 e)))
-      (λ h l. class_size s is block set h)
+  -- each translate is given by as many shifts as fix the block
+  pub covers_different : (p q : ℕ) → covers p q ≡ stabilizer_under s shifts block * different p q
+  covers_different p q =
+      sum_listed s is shifts closed block set (λ g. one (holds (translate s block g) p q)) (λ g h e.
+      ap (λ b. one (holds b p q)) (sym ((bytes_eq-Decides (translate s block h) (translate s block g)).0 e)))
 
-  listed_covers : (k : Kind) (p q : ℕ) → p < q → q < point_count s
-      → total (λ g. cond (is_listed s k block g) (one (holds (translate s block g) p q)) 0) (order_of s.group) ≡ summand_of s (kind s p q) k block
-  listed_covers kinds.Base p q h l = covers_kind p q h l
-  listed_covers kinds.Short p q h l =
-      sym (ap (λ m. m / stabilizer s block) (sym (covers_kind p q h l) ∙ covers_firsts p q ∙ mul_comm (stabilizer s block) (firsts p q)) ∙ mul-div_cancel (firsts p q) (stabilizer_some s is block set))
+  translates_hold : (k : Kind) (p q : ℕ) → cb (λ b. holds b p q) (translates_under s shifts record { kind = k; block = block }) ≡ sb (λ g. one (holds (translate s block g) p q)) (filter (is_listed s shifts k block) shifts)
+  translates_hold k p q =
+      cb_map (λ b. holds b p q) (translate s block) (filter (is_listed s shifts k block) shifts) ∙ cb_sb (λ g. holds (translate s block g) p q) (filter (is_listed s shifts k block) shifts)
 
-  -- the translates of a member of the family hold a pair as often as the member adds to its row
-  pub member_covers : (k : Kind) (p q : ℕ) → p < q → q < point_count s → cb (λ b. holds b p q) (translates s record { kind = k; block = block }) ≡ summand_of s (kind s p q) k block
-  member_covers k p q h l =
-      cb_map (λ b. holds b p q) (translate s block) (filter (is_listed s k block) (elements s))
-      ∙ cb_filter (is_listed s k block) (λ g. holds (translate s block g) p q) (elements s)
-      ∙ sb_range (λ g. cond (is_listed s k block g) (one (holds (translate s block g) p q)) 0) (order_of s.group)
-      ∙ listed_covers k p q h l
+  -- the translates of a member of the family hold a pair as often as the member adds
+  pub member_covers : (k : Kind) (p q : ℕ) → p < q → q < point_count s → cb (λ b. holds b p q) (translates_under s shifts record { kind = k; block = block }) ≡ summand_at s shifts p q k block
+  member_covers kinds.Base p q h l = translates_hold kinds.Base p q ∙ ap (sb (λ g. one (holds (translate s block g) p q))) (all_kept shifts) ∙ covers_occurs p q h l
+  member_covers kinds.Short p q h l =
+      let m = stabilizer_under s shifts block in
+      translates_hold kinds.Short p q
+      ∙ sym (ap (λ x. x / m) (sym (covers_occurs p q h l) ∙ covers_different p q ∙ mul_comm m (different p q)) ∙ mul-div_cancel (different p q) (stabilizer_some s is shifts closed block set))
 
   -- all translates of a block, and the different ones
-  pub translates_length : order_of s.group ≡ stabilizer s block * length (translates s record { kind = kinds.Short; block = block })
+  pub translates_length : length shifts ≡ stabilizer_under s shifts block * length (translates_under s shifts record { kind = kinds.Short; block = block })
   translates_length =
-      let t = is_least (same_translate s block) in
-      sym (total_ones (order_of s.group))
-      ∙ leasts (order_of s.group) (same_translate s block) (sameness s is block) (λ g. 1) (stabilizer s block) (λ g h l m e. refl) (λ h l. class_size s is block set h)
-      ∙ ap (λ m. stabilizer s block * m) (
-      sym (length_sb (translates s record { kind = kinds.Short; block = block }) ∙ sb_map (translate s block) (filter t (elements s)) ∙ sb_filter t (λ g. 1) (elements s) ∙ sb_range (λ g. cond (t g) 1 0) (order_of s.group)))
-    where
-      sb_map : (f : ℕ → List ℕ) (xs : List ℕ) → sb (λ b. 1) (map f xs) ≡ sb (λ g. 1) xs
-      sb_map f [] = refl
-      sb_map f (x ∷ xs) = ap (λ n. 1 + n) (sb_map f xs)
+      let listed = filter (is_listed s shifts kinds.Short block) shifts in
+      length_sb shifts ∙ sum_listed s is shifts closed block set (λ g. 1) (λ g h e. refl)
+      ∙ ap (λ m. stabilizer_under s shifts block * m) (sym (length-map listed (translate s block) ∙ length_sb listed))

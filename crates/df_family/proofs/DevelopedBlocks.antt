@@ -13,7 +13,7 @@ use Rattle.df_group.proofs.ElementLaws.{is_group}
 use Rattle.df_lang.specs.declared.parts.Member.{Member}
 use Rattle.df_lang.specs.Problems.{Stated, IsStated, IsBlock, IsSize, point_count}
 use Rattle.df_family.specs.Translates.{shifted, translate}
-use Rattle.df_family.specs.Developments.{shifts, translates, develop}
+use Rattle.df_family.specs.Developments.{is_listed, translates_under, develop_under}
 use Rattle.df_family.proofs.TranslateLaws.{hit, shifted_within, there_and_back, back_and_there}
 use Rattle.df_family.proofs.TableRows.{All-flat_map}
 
@@ -46,15 +46,15 @@ module _ (s : Stated) (is : IsGroup (group_of s.group)) where
   translated_block : (block : List ℕ) (g : ℕ) → IsBlock (point_count s) s.sizes block → IsBlock (point_count s) s.sizes (translate s block g)
   translated_block block g h = record { set = translate_is_set s block g; size = ap (has_member s.sizes) (translate_length block g h.set) ∙ h.size }
 
-  developed : All (λ (m : Member). IsBlock (point_count s) s.sizes m.block) s.family → All (IsBlock (point_count s) s.sizes) (develop s)
-  developed each =
-      All-flat_map (IsBlock (point_count s) s.sizes) (translates s) s.family
-      (All-weaker (λ (m : Member). IsBlock (point_count s) s.sizes m.block) (λ (m : Member). All (IsBlock (point_count s) s.sizes) (translates s m)) (λ m h.
-      All-map (IsBlock (point_count s) s.sizes) (translate s m.block) (shifts s m) (λ k d l. translated_block m.block _ h))
+  developed : (shifts : List ℕ) → All (λ (m : Member). IsBlock (point_count s) s.sizes m.block) s.family → All (IsBlock (point_count s) s.sizes) (develop_under s shifts)
+  developed shifts each =
+      All-flat_map (IsBlock (point_count s) s.sizes) (translates_under s shifts) s.family
+      (All-weaker (λ (m : Member). IsBlock (point_count s) s.sizes m.block) (λ (m : Member). All (IsBlock (point_count s) s.sizes) (translates_under s shifts m)) (λ m h.
+      All-map (IsBlock (point_count s) s.sizes) (translate s m.block) (filter (is_listed s shifts m.kind m.block) shifts) (λ k d l. translated_block m.block _ h))
       s.family each)
 
-pub developed_blocks : (s : Stated) → IsStated s → All (IsBlock (point_count s) s.sizes) (develop s)
-developed_blocks s is = developed s (is_group s.group is.shape) is.family
+pub developed_blocks : (s : Stated) → IsStated s → (shifts : List ℕ) → All (IsBlock (point_count s) s.sizes) (develop_under s shifts)
+developed_blocks s is shifts = developed s (is_group s.group is.shape) shifts is.family
 
 -- one of the sizes is at most 16
 size_at_most : (v k : ℕ) (sizes : List ℕ) → All (IsSize v) sizes → has_member sizes k ≡ true → k ≤ 16
@@ -66,5 +66,5 @@ size_at_most v k (n ∷ sizes) each h = go (eqb n k) refl h (size_at_most v k si
     go false e m rest = rest m
 
 -- a developed block has at most 16 points
-pub developed_sizes : (s : Stated) → IsStated s → All (λ (block : List ℕ). length block ≤ 16) (develop s)
-developed_sizes s is = All-weaker (IsBlock (point_count s) s.sizes) (λ (block : List ℕ). length block ≤ 16) (λ block h. size_at_most (point_count s) (length block) s.sizes is.sizes h.size) (develop s) (developed_blocks s is)
+pub developed_sizes : (s : Stated) → IsStated s → (shifts : List ℕ) → All (λ (block : List ℕ). length block ≤ 16) (develop_under s shifts)
+developed_sizes s is shifts = All-weaker (IsBlock (point_count s) s.sizes) (λ (block : List ℕ). length block ≤ 16) (λ block h. size_at_most (point_count s) (length block) s.sizes is.sizes h.size) (develop_under s shifts) (developed_blocks s is shifts)

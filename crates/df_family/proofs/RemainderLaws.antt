@@ -1,20 +1,21 @@
 -- What remains of a development, one block on.
-use Rattle.std.proofs.Common.{◌≡◌, ℕ, zero, suc, ◌+◌, ◌-◌, ◌<◌, Bool, true, false, cond, not, ◌||◌, List, [], ◌∷◌, ◌++◌, map, filter, find, length, get_or, All, None, Some, refl, sym, ap, ◌∙◌, inl, inr, arith}
-use Rattle.std.specs.List.{range_with_len, flat_map}
+use Rattle.std.proofs.Common.{◌≡◌, ℕ, zero, suc, ◌+◌, ◌-◌, ◌<◌, Bool, true, false, cond, not, ◌&&◌, ◌||◌, nat_lt, List, [], ◌∷◌, ◌++◌, map, filter, find, length, get_or, All, None, Some, refl, sym, ap, ◌∙◌, inl, inr, arith}
+use Rattle.std.specs.List.{range_with_len, flat_map, list_any}
 use Rattle.df_lists.specs.Membership.{In}
 use Rattle.df_lists.specs.NumberSets.{has_member, IsSet}
-use Rattle.df_lists.specs.LeastMembers.{any_below, is_least}
-use Rattle.df_lists.proofs.CountLaws.{has_filter}
+use Rattle.df_lists.specs.LeastMembers.{any_below}
 use Rattle.df_lists.proofs.MemberLaws.{In-filter_gives, In-range_gives}
 use Rattle.df_group.specs.Elements.{order_of, group_of, IsGroup, minus}
+use Rattle.df_group.specs.ClosedSets.{IsClosed}
 use Rattle.df_lang.specs.declared.parts.Kind.{Kind}
 use Rattle.df_lang.specs.declared.parts.Kind.TheVariants as kinds
 use Rattle.df_lang.specs.declared.parts.Member.{Member}
 use Rattle.df_lang.specs.Problems.{Stated, point_count}
-use Rattle.df_family.specs.Translates.{elements, translate, same_translate, fixes}
-use Rattle.df_family.specs.Developments.{is_listed, translates}
-use Rattle.df_family.specs.Remainders.{left_from, IsListedOf}
+use Rattle.df_family.specs.Translates.{translate, same_translate, fixes}
+use Rattle.df_family.specs.Developments.{is_listed, translates_under}
+use Rattle.df_family.specs.Remainders.{is_listed_shift, rest_from, IsListedOf}
 use Rattle.df_family.proofs.TranslateLaws.{same_by_stabilizer}
+use Rattle.df_family.proofs.ShiftLaws.{any_below_same, any_lower, coset_of_shift, filter_set, has_filtered}
 
 pub In-get_or : (xs : List ℕ) (k d : ℕ) → k < length xs → In xs (get_or xs k d)
 In-get_or [] k d h = absurd (omega arith)
@@ -32,16 +33,23 @@ set_below v set is k d h =
 pub picks_pass : (t : ℕ → Bool) (xs : List ℕ) (k d : ℕ) → k < length (filter t xs) → t (get_or (filter t xs) k d) ≡ true
 picks_pass t xs k d h = (In-filter_gives t xs (get_or (filter t xs) k d) (In-get_or (filter t xs) k d h)).1
 
-any_below_same : (t u : ℕ → Bool) (n : ℕ) → ((j : ℕ) → j < n → t j ≡ u j) → any_below t n ≡ any_below u n
-any_below_same t u zero h = refl
-any_below_same t u (suc n) h = ap (λ v. v || t n) (any_below_same t u n (λ j l. h j (omega arith))) ∙ ap (λ v. any_below u n || v) (h n (omega arith))
-
--- no lower element gives the translate by g where the difference of g from none of them fixes the block
-pub first_least : (s : Stated) (is : IsGroup (group_of s.group)) (block : List ℕ) → IsSet (point_count s) block → (fixing : List ℕ) → fixing ≡ filter (fixes s block) (elements s) → (g : ℕ) → g < order_of s.group
-    → not (any_below (λ h. has_member fixing (minus (group_of s.group) g h)) g) ≡ is_least (same_translate s block) g
-first_least s is block set fixing e g l =
-    ap not (any_below_same (λ h. has_member fixing (minus (group_of s.group) g h)) (λ h. same_translate s block h g) g (λ h k.
-    ap (λ f. has_member f (minus (group_of s.group) g h)) e ∙ has_filter (fixes s block) (order_of s.group) (minus (group_of s.group) g h) (is.within g ((group_of s.group).neg h)) ∙ sym (same_by_stabilizer s is block set h g l)))
+-- the translate by a shift is listed where the difference of it from no lower element is a shift that fixes the block
+pub first_least : (s : Stated) (is : IsGroup (group_of s.group)) (shifts : List ℕ) (closed : IsClosed s.group shifts) (block : List ℕ) → IsSet (point_count s) block → (fixing : List ℕ) → fixing ≡ filter (fixes s block) shifts
+    → (g : ℕ) → g < order_of s.group → has_member shifts g ≡ true → not (any_below (λ h. has_member fixing (minus (group_of s.group) g h)) g) ≡ is_listed s shifts kinds.Short block g
+first_least s is shifts closed block set fixing e g l i =
+    ap not
+    (any_below_same (λ h. has_member fixing (minus (group_of s.group) g h)) (λ h. has_member shifts h && same_translate s block h g) g (λ h k.
+    ap (λ f. has_member f (minus (group_of s.group) g h)) e ∙ has_filtered (fixes s block) shifts (minus (group_of s.group) g h)
+    ∙ and_turned (fixes s block (minus (group_of s.group) g h)) (has_member shifts (minus (group_of s.group) g h))
+    ∙ ap (λ v. v && fixes s block (minus (group_of s.group) g h)) (sym (coset_of_shift s is shifts closed g h l (omega arith) i))
+    ∙ ap (λ v. has_member shifts h && v) (sym (same_by_stabilizer s is block set h g l)))
+    ∙ sym (any_lower (λ h. same_translate s block h g) shifts g))
+  where
+    and_turned : (a b : Bool) → (a && b) ≡ (b && a)
+    and_turned true true = refl
+    and_turned true false = refl
+    and_turned false true = refl
+    and_turned false false = refl
 
 pub range_step : (a n : ℕ) → a < n → range_with_len a (n - a) ≡ a ∷ range_with_len (a + 1) (n - (a + 1))
 range_step a n h = let e : n - a ≡ suc (n - (a + 1)) = omega arith in ap (range_with_len a) e
@@ -81,33 +89,36 @@ find_here t a n h e = ap (find t) (range_step a n h) ∙ ap (λ v. cond v (Some 
 pub find_on : (t : ℕ → Bool) (a n : ℕ) → a < n → t a ≡ false → find t (range_with_len a (n - a)) ≡ find t (range_with_len (a + 1) (n - (a + 1)))
 find_on t a n h e = ap (find t) (range_step a n h) ∙ ap (λ v. cond v (Some a) (find t (range_with_len (a + 1) (n - (a + 1))))) e
 
-pub listed_first : (s : Stated) (k : Kind) (block : List ℕ) → is_listed s k block 0 ≡ true
-listed_first s kinds.Base block = refl
-listed_first s kinds.Short block = refl
+listed_first : (s : Stated) (shifts : List ℕ) (k : Kind) (block : List ℕ) → has_member shifts 0 ≡ true → is_listed_shift s shifts k block 0 ≡ true
+listed_first s shifts kinds.Base block h = ap (λ v. v && true) h
+listed_first s shifts kinds.Short block h =
+    ap (λ v. v && not (list_any (λ g. nat_lt g 0 && same_translate s block g 0) shifts)) h ∙ ap not (any_lower (λ g. same_translate s block g 0) shifts 0)
 
-pub listed_at_start : (s : Stated) (ms : List Member) → IsListedOf s ms 0
-listed_at_start s [] = tt
-listed_at_start s (m ∷ ms) = listed_first s m.kind m.block
+pub listed_at_start : (s : Stated) (shifts : List ℕ) (ms : List Member) → has_member shifts 0 ≡ true → IsListedOf s shifts ms 0
+listed_at_start s shifts [] h = tt
+listed_at_start s shifts (m ∷ ms) h = listed_first s shifts m.kind m.block h
 
-pub left_at_start : (s : Stated) (ms : List Member) → left_from s ms 0 ≡ flat_map (translates s) ms
-left_at_start s [] = refl
-left_at_start s (m ∷ ms) =
+pub rest_at_start : (s : Stated) (shifts : List ℕ) → IsSet (order_of s.group) shifts → (ms : List Member) → rest_from s shifts ms 0 ≡ flat_map (translates_under s shifts) ms
+rest_at_start s shifts set [] = refl
+rest_at_start s shifts set (m ∷ ms) =
     let e : order_of s.group - 0 ≡ order_of s.group = omega arith in
-    ap (λ k. map (translate s m.block) (filter (is_listed s m.kind m.block) (range_with_len 0 k)) ++ flat_map (translates s) ms) e
+    ap (λ k. map (translate s m.block) (filter (is_listed_shift s shifts m.kind m.block) (range_with_len 0 k)) ++ flat_map (translates_under s shifts) ms) e
+    ∙ ap (λ l. map (translate s m.block) l ++ flat_map (translates_under s shifts) ms) (sym (filter_set (order_of s.group) shifts (is_listed s shifts m.kind m.block) set))
 
-module _ (s : Stated) (m : Member) (ms : List Member) (g : ℕ) (below : g < order_of s.group) (listed : is_listed s m.kind m.block g ≡ true) where
-  abbrev rest : List ℕ
-  rest = filter (is_listed s m.kind m.block) (range_with_len (g + 1) (order_of s.group - (g + 1)))
+module _ (s : Stated) (shifts : List ℕ) (m : Member) (ms : List Member) (g : ℕ) (below : g < order_of s.group) (listed : is_listed_shift s shifts m.kind m.block g ≡ true) where
+  abbrev later : List ℕ
+  later = filter (is_listed_shift s shifts m.kind m.block) (range_with_len (g + 1) (order_of s.group - (g + 1)))
 
-  left_here : left_from s (m ∷ ms) g ≡ translate s m.block g ∷ (map (translate s m.block) rest ++ flat_map (translates s) ms)
-  left_here =
-      ap (λ r. map (translate s m.block) (filter (is_listed s m.kind m.block) r) ++ flat_map (translates s) ms) (range_step g (order_of s.group) below)
-      ∙ ap (λ v. map (translate s m.block) (cond v (g ∷ rest) rest) ++ flat_map (translates s) ms) listed
+  rest_here : rest_from s shifts (m ∷ ms) g ≡ translate s m.block g ∷ (map (translate s m.block) later ++ flat_map (translates_under s shifts) ms)
+  rest_here =
+      ap (λ r. map (translate s m.block) (filter (is_listed_shift s shifts m.kind m.block) r) ++ flat_map (translates_under s shifts) ms) (range_step g (order_of s.group) below)
+      ∙ ap (λ v. map (translate s m.block) (cond v (g ∷ later) later) ++ flat_map (translates_under s shifts) ms) listed
 
-  -- a later element of the member is listed
-  pub left_later : (x : ℕ) → Found (is_listed s m.kind m.block) (g + 1) (order_of s.group) x → left_from s (m ∷ ms) g ≡ translate s m.block g ∷ left_from s (m ∷ ms) x
-  left_later x f = left_here ∙ ap (λ r. translate s m.block g ∷ (map (translate s m.block) r ++ flat_map (translates s) ms)) f.same
+  -- a later shift of the member is listed
+  pub rest_later : (x : ℕ) → Found (is_listed_shift s shifts m.kind m.block) (g + 1) (order_of s.group) x → rest_from s shifts (m ∷ ms) g ≡ translate s m.block g ∷ rest_from s shifts (m ∷ ms) x
+  rest_later x f = rest_here ∙ ap (λ r. translate s m.block g ∷ (map (translate s m.block) r ++ flat_map (translates_under s shifts) ms)) f.same
 
   -- none is
-  pub left_last : rest ≡ [] → left_from s (m ∷ ms) g ≡ translate s m.block g ∷ left_from s ms 0
-  left_last e = left_here ∙ ap (λ r. translate s m.block g ∷ (map (translate s m.block) r ++ flat_map (translates s) ms)) e ∙ ap (λ l. translate s m.block g ∷ l) (sym (left_at_start s ms))
+  pub rest_last : IsSet (order_of s.group) shifts → later ≡ [] → rest_from s shifts (m ∷ ms) g ≡ translate s m.block g ∷ rest_from s shifts ms 0
+  rest_last set e =
+      rest_here ∙ ap (λ r. translate s m.block g ∷ (map (translate s m.block) r ++ flat_map (translates_under s shifts) ms)) e ∙ ap (λ l. translate s m.block g ∷ l) (sym (rest_at_start s shifts set ms))

@@ -13,7 +13,7 @@ use Rattle.df_lang.specs.Targets.{subgroup_at, finite_target, target}
 use Rattle.df_family.specs.declared.table.Row.{Row}
 use Rattle.df_family.specs.declared.table.Row.TheVariants.{Diff, WithFixed, TwoFixed}
 use Rattle.df_family.specs.Tables.{fixed_point, differences, singles, pairs, rows, stated}
-use Rattle.df_family.proofs.CoverLaws.{kind, fixed_back}
+use Rattle.df_family.proofs.RowKinds.{kind, fixed_back}
 
 pub In-flat_map : {X Y : Type 0} (f : X → List Y) (xs : List X) (x : X) (y : Y) → In xs x → In (f x) y → In (flat_map f xs) y
 In-flat_map f [] x y i j = absurd i

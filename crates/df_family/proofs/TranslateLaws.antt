@@ -1,25 +1,14 @@
--- Translates of a block: which points they hold, and which of them are the same.
+-- Translates of a block: which points they hold, and which elements give the same one.
 use Rattle.std.proofs.Common.{◌≡◌, ℕ, zero, suc, ◌<◌, ◌≤◌, eqb, ◌||◌, List, [], ◌∷◌, map, refl, sym, ap, ◌∙◌, inl, inr, arith, lt-ltb, le-ltb}
 use Rattle.std.proofs.lemmas.Slice.Eq.{bytes_eq-Decides}
 use Rattle.std.proofs.lemmas.Bool.Decides.{same_from_decides, Decides-eqb}
 use Rattle.std.proofs.lemmas.Bool.{cases_lt}
 use Rattle.df_lists.specs.NumberSets.{has_member, IsSet}
-use Rattle.df_lists.specs.Totals.{total, one}
-use Rattle.df_lists.specs.LeastMembers.{IsSameness}
-use Rattle.df_lists.proofs.TotalLaws.{total_same, total_turn}
-use Rattle.df_lists.proofs.CountLaws.{cb_is, cb_range, has_filter, filter_same}
+use Rattle.df_lists.proofs.CountLaws.{has_filter, filter_same}
 use Rattle.df_group.specs.Elements.{order_of, group_of, IsGroup, minus}
-use Rattle.df_group.proofs.GroupLaws.{more_less, less_more, minus_plus, minus_zero, turns_less}
+use Rattle.df_group.proofs.GroupLaws.{more_less, less_more, minus_plus, minus_zero}
 use Rattle.df_lang.specs.Problems.{Stated, point_count}
-use Rattle.df_family.specs.Translates.{elements, shifted, translate, same_translate, fixes, stabilizer}
-
-pub total_has : (F : ℕ → ℕ) (c n : ℕ) → c < n → F c ≤ total F n
-total_has F c zero h = absurd (omega arith)
-total_has F c (suc n) h =
-    elim (cases_lt c n) [
-      | inl l ↦ let ih = total_has F c n l in omega arith
-      | inr r ↦ let e : c ≡ n = omega arith in let k = ap F e in omega arith
-    ]
+use Rattle.df_family.specs.Translates.{shifted, translate, same_translate, fixes}
 
 module _ (s : Stated) (is : IsGroup (group_of s.group)) where
   pub shifted_finite : (g p : ℕ) → p < order_of s.group → shifted s g p ≡ (group_of s.group).plus p g
@@ -91,13 +80,6 @@ module _ (s : Stated) (is : IsGroup (group_of s.group)) where
         stays : (q : ℕ) → shifted s ((group_of s.group).neg 0) q ≡ q
         stays q = elim (cases_lt q (order_of s.group)) [ inl l ↦ shifted_finite ((group_of s.group).neg 0) q l ∙ minus_zero (group_of s.group) is q l | inr r ↦ shifted_fixed ((group_of s.group).neg 0) q r ]
 
-    pub sameness : IsSameness (order_of s.group) (same_translate s block)
-    sameness = record {
-      self = λ i l. (bytes_eq-Decides (translate s block i) (translate s block i)).1 refl;
-      turned = λ i j l m e. (bytes_eq-Decides (translate s block j) (translate s block i)).1 (sym ((bytes_eq-Decides (translate s block i) (translate s block j)).0 e));
-      joined = λ i j k l m o e d. (bytes_eq-Decides (translate s block i) (translate s block k)).1 ((bytes_eq-Decides (translate s block i) (translate s block j)).0 e ∙ (bytes_eq-Decides (translate s block j) (translate s block k)).0 d);
-    }
-
     module _ (set : IsSet (point_count s) block) where
       -- h and g give the same translate exactly where g - h fixes the block
       pub same_by_stabilizer : (h g : ℕ) → g < order_of s.group → same_translate s block h g ≡ fixes s block (minus (group_of s.group) g h)
@@ -109,18 +91,3 @@ module _ (s : Stated) (is : IsGroup (group_of s.group)) where
                 ap (translate s block) (is.comm g ((group_of s.group).neg h)) ∙ sym (translate_twice g ((group_of s.group).neg h)) ∙ ap (λ b. translate s b ((group_of s.group).neg h)) (sym e)
                 ∙ translate_twice h ((group_of s.group).neg h) ∙ ap (translate s block) (is.comm ((group_of s.group).neg h) h ∙ is.neg h) ∙ translate_zero set),
           ))
-
-      -- as many elements give a translate as fix the block
-      pub class_size : (h : ℕ) → total (λ g. one (same_translate s block h g)) (order_of s.group) ≡ stabilizer s block
-      class_size h =
-          total_same (λ g. one (same_translate s block h g)) (λ g. one (fixes s block (minus (group_of s.group) g h))) (order_of s.group) (λ g l. ap one (same_by_stabilizer h g l))
-          ∙ total_turn (λ g. one (fixes s block g)) (order_of s.group) (λ g. minus (group_of s.group) g h) (λ g. (group_of s.group).plus g h) (turns_less (group_of s.group) is h)
-          ∙ sym (cb_range (fixes s block) (order_of s.group)) ∙ cb_is (fixes s block) (elements s)
-
-      -- 0 fixes each block
-      pub stabilizer_some : 0 < stabilizer s block
-      stabilizer_some =
-          let at = total_has (λ g. one (fixes s block g)) 0 (order_of s.group) is.some in
-          let e : one (fixes s block 0) ≡ 1 = ap one ((bytes_eq-Decides (translate s block 0) block).1 (translate_zero set)) in
-          let k = sym (cb_range (fixes s block) (order_of s.group)) ∙ cb_is (fixes s block) (elements s) in
-          omega arith

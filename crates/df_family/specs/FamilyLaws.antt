@@ -1,14 +1,16 @@
 -- The laws of difference families.
-use Rattle.std.specs.Prelude.{◌≡◌, ◌↔◌, ℕ, ◌*◌, ◌<◌, true, List, map, length}
+use Rattle.std.specs.Prelude.{◌≡◌, ◌↔◌, ℕ, ◌*◌, ◌<◌, true, List, map, length, nat_lt}
 use Rattle.df_lists.specs.Membership.{In}
 use Rattle.df_lists.specs.NumberSets.{has_member, IsSet}
-use Rattle.df_group.specs.Elements.{order_of, group_of}
+use Rattle.df_lists.specs.Orders.{IsSorted}
+use Rattle.df_group.specs.Elements.{group_of}
+use Rattle.df_group.specs.Subgroups.{IsSubgroup}
 use Rattle.df_lang.specs.declared.parts.Kind.TheVariants as kinds
 use Rattle.df_lang.specs.Problems.{Stated, IsStated, point_count}
 use Rattle.df_lang.specs.Balance.{IsBalanced}
 use Rattle.df_family.specs.declared.table.Row.{Row}
-use Rattle.df_family.specs.Translates.{elements, shifted, translate, stabilizer}
-use Rattle.df_family.specs.Developments.{first_occurrences, translates, develop}
+use Rattle.df_family.specs.Translates.{shifted, translate, stabilizer, stabilizer_under}
+use Rattle.df_family.specs.Developments.{first_occurrences, translates_under, develop}
 use Rattle.df_family.specs.Tables.{rows, occurs, IsAsStated}
 use Rattle.df_family.specs.Verdicts.{verdict_on, is_accepted}
 
@@ -24,14 +26,15 @@ VerdictLaw = (s : Stated) → IsStated s → (is_accepted (verdict_on s) ≡ tru
 abbrev pub DivisionLaw : Type 0
 DivisionLaw = (s : Stated) → IsStated s → (block : List ℕ) → IsSet (point_count s) block → (row : Row) → In (rows s) row → (times : ℕ) × (occurs s row block ≡ stabilizer s block * times)
 
--- a block has as many different translates as the order divided by the number of translations that fix it, without rest
+-- a block has as many different translates under a subgroup as its order divided by the number of shifts that fix it, without rest
 abbrev pub LengthLaw : Type 0
-LengthLaw = (s : Stated) → IsStated s → (block : List ℕ) → IsSet (point_count s) block
-    → order_of s.group ≡ stabilizer s block * length (translates s record { kind = kinds.Short; block = block })
+LengthLaw = (s : Stated) → IsStated s → (shifts : List ℕ) → IsSubgroup s.group shifts → (block : List ℕ) → IsSet (point_count s) block
+    → length shifts ≡ stabilizer_under s shifts block * length (translates_under s shifts record { kind = kinds.Short; block = block })
 
--- of all translates of a short block only the first occurrence of each stays
+-- of all translates of a short block by an increasing list of elements only the first occurrence of each stays
 abbrev pub OccurrenceLaw : Type 0
-OccurrenceLaw = (s : Stated) (block : List ℕ) → translates s record { kind = kinds.Short; block = block } ≡ first_occurrences (map (translate s block) (elements s))
+OccurrenceLaw = (s : Stated) (shifts block : List ℕ) → IsSorted nat_lt shifts
+    → translates_under s shifts record { kind = kinds.Short; block = block } ≡ first_occurrences (map (translate s block) shifts)
 
 -- block + g holds a point exactly where the block holds the point that -g carries it to
 abbrev pub PreimageLaw : Type 0

@@ -1,3 +1,4 @@
+pub mod Covers
 pub mod Developments
 pub mod FamilyLaws
 pub mod Remainders

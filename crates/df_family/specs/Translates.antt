@@ -26,6 +26,10 @@ same_translate s block g h = bytes_eq (translate s block g) (translate s block h
 abbrev pub fixes : Stated → List ℕ → ℕ → Bool
 fixes s block g = bytes_eq (translate s block g) block
 
+-- how many of these translations fix the block
+abbrev pub stabilizer_under : Stated → List ℕ → List ℕ → ℕ
+stabilizer_under s hs block = count_by (fixes s block) hs
+
 -- how many translations fix the block
 abbrev pub stabilizer : Stated → List ℕ → ℕ
-stabilizer s block = count_by (fixes s block) (elements s)
+stabilizer s block = stabilizer_under s (elements s) block

@@ -1,16 +1,22 @@
-// The development of a family, one block after another.
-ghost use Rattle.std.specs.Prelude.{◌≡◌, ◌+◌, ◌-◌, ◌≤◌, ◌<◌, ◌∷◌, [], drop, not, find, length, All, IfSome, MatchOption};
+// The development of a family, one block after another, by the elements of a subgroup: by all of them, for a difference family.
+//
+// The translates of a base block are all listed, repeats kept. Of a short block the translate by g is listed only where no lower shift h gives
+// the same one, which is where the difference g - h fixes the block. So the shifts that fix a block are found once, when the development
+// comes to it, in one translate for each shift; after that each shift costs at most g differences and looks at a set, and no translate is
+// kept or compared.
+ghost use Rattle.std.specs.Prelude.{◌≡◌, ◌+◌, ◌-◌, ◌≤◌, ◌<◌, ◌∷◌, [], true, drop, not, find, length, All, IfSome, MatchOption};
 ghost use Rattle.std.specs.List.{range_with_len};
 ghost use Rattle.df_lists.specs.NumberSets.{has_member, IsSet};
 ghost use Rattle.df_lists.specs.LeastMembers.{any_below};
 ghost use Rattle.df_group.specs.Elements.{order_of, group_of, minus};
+ghost use Rattle.df_group.specs.Subgroups.{IsSubgroup};
 ghost use Rattle.df_lang.specs.Problems.{IsBlock, IsStated, point_count};
-ghost use Rattle.df_family.specs.Developments.{develop, is_listed as is_listed_by};
-ghost use Rattle.df_family.specs.Remainders.{IsFixing, IsFixingOf};
+ghost use Rattle.df_family.specs.Developments.{develop, develop_under, is_listed as is_listed_by};
+ghost use Rattle.df_family.specs.Remainders.{is_listed_shift as is_listed_shift_by, IsFixing, IsFixingOf};
 
 use crate::problem_parts::{difference, member_at, order};
 use crate::translate::{fixing, translated};
-use df_group::Elem;
+use df_group::{Elem, Subgroup};
 use df_lang::{Kind, Member, Problem};
 use df_subsets::{Block, Point};
 use std::marker::Model;
@@ -19,6 +25,7 @@ use std::marker::Model;
 #[derive(Drop)]
 pub struct Develop<'a> {
     problem: &'a Problem,
+    shifts: Subgroup,
     member: usize,
     shift: u8,
     fixing: Block,
@@ -26,13 +33,13 @@ pub struct Develop<'a> {
 
 impl<'a> Model for Develop<'a> {
     ghost use Rattle.std.specs.Prelude.{List, ℕ, drop};
-    ghost use Rattle.df_family.specs.Remainders.{left_from, IsPlace};
+    ghost use Rattle.df_family.specs.Remainders.{rest_from, IsPlace};
 
     ghost Value = { List (List ℕ) };
 
-    ghost view = { λ d. left_from d.problem.now (drop d.member d.problem.now.family) d.shift };
+    ghost view = { λ d. rest_from d.problem.now d.shifts (drop d.member d.problem.now.family) d.shift };
 
-    ghost invariant = { λ d. IsPlace d.problem.now d.member d.shift d.fixing };
+    ghost invariant = { λ d. IsPlace d.problem.now d.shifts d.member d.shift d.fixing };
 }
 
 impl<'a> Develop<'a> {
@@ -43,11 +50,23 @@ impl<'a> Develop<'a> {
         ensures blocks { All (IsBlock (point_count problem.now) problem.now.sizes) (develop problem.now) }
         ensures sizes { All (λ block. length block ≤ 16) (develop problem.now) }
     {
+        Develop::under(problem, Subgroup::whole(&problem.shape))
+    }
+
+    // The whole development by the elements of a subgroup.
+    fn under(problem: &'a Problem, shifts: Subgroup) -> Develop<'a>
+        requires { IsSubgroup problem.now.group shifts }
+        ensures whole { result ≡ develop_under problem.now shifts }
+        ensures blocks { All (IsBlock (point_count problem.now) problem.now.sizes) (develop_under problem.now shifts) }
+        ensures sizes { All (λ block. length block ≤ 16) (develop_under problem.now shifts) }
+    {
+        let fixing = fixing_of(problem, &shifts, 0);
         Develop {
             problem,
+            shifts,
             member: 0,
             shift: 0,
-            fixing: fixing_of(problem, 0),
+            fixing,
         }
     }
 
@@ -58,55 +77,83 @@ impl<'a> Develop<'a> {
         let problem = self.problem;
         let member = member_at(problem, self.member)?;
         let block = translated(problem, &member.block, Elem(self.shift));
-        match next_listed(problem, &member, &self.fixing, self.shift + 1) {
+        match next_listed(problem, &self.shifts, &member, &self.fixing, self.shift + 1) {
             Some(shift) => self.shift = shift,
             None => {
                 self.member += 1;
                 self.shift = 0;
-                self.fixing = fixing_of(problem, self.member);
+                self.fixing = fixing_of(problem, &self.shifts, self.member);
             }
         }
         Some(block)
     }
 }
 
-// The elements that fix the block of this member, where it is short.
-fn fixing_of(problem: &Problem, member: usize) -> Block
-    ensures fixing { IsFixingOf problem.now (drop member problem.now.family) result }
+// The shifts that fix the block of this member, where it is short.
+fn fixing_of(problem: &Problem, shifts: &Subgroup, member: usize) -> Block
+    requires { IsSubgroup problem.now.group shifts.now }
+    ensures fixing { IsFixingOf problem.now shifts.now (drop member problem.now.family) result }
     ensures rules { IsStated problem.now }
 {
     match member_at(problem, member) {
         None => Block::empty(),
         Some(member) => match member.kind {
             Kind::Base => Block::empty(),
-            Kind::Short => fixing(problem, &member.block),
+            Kind::Short => fixing(problem, shifts, &member.block),
         },
     }
 }
 
-// The first element from this number on by which the member's translate is listed.
-fn next_listed(problem: &Problem, member: &Member, fixing: &Block, from: u8) -> Option<u8>
+// The first shift from this number on by which the member's translate is listed.
+fn next_listed(
+    problem: &Problem,
+    shifts: &Subgroup,
+    member: &Member,
+    fixing: &Block,
+    from: u8,
+) -> Option<u8>
     requires from { from ≤ order_of problem.now.group }
     requires rules { IsStated problem.now }
+    requires subgroup { IsSubgroup problem.now.group shifts.now }
     requires set { IsSet (point_count problem.now) member.now.block }
-    requires fixing { IsFixing problem.now member.now.kind member.now.block fixing.now }
-    ensures { result ≡ find (is_listed_by problem.now member.now.kind member.now.block) (range_with_len from (order_of problem.now.group - from)) }
+    requires fixing { IsFixing problem.now shifts.now member.now.kind member.now.block fixing.now }
+    ensures { result ≡ find (is_listed_shift_by problem.now shifts.now member.now.kind member.now.block) (range_with_len from (order_of problem.now.group - from)) }
 {
     for g in from..order(problem) {
-        if is_listed(problem, member, fixing, Elem(g)) {
+        if is_listed_shift(problem, shifts, member, fixing, Elem(g)) {
             return Some(g);
         }
     }
     None
 }
 
-// Whether the member's translate by g is listed.
-fn is_listed(problem: &Problem, member: &Member, fixing: &Block, g: Elem) -> bool
+// Whether g is a shift and the member's translate by it is listed.
+fn is_listed_shift(
+    problem: &Problem,
+    shifts: &Subgroup,
+    member: &Member,
+    fixing: &Block,
+    g: Elem,
+) -> bool
     requires below { g < order_of problem.now.group }
     requires rules { IsStated problem.now }
+    requires subgroup { IsSubgroup problem.now.group shifts.now }
     requires set { IsSet (point_count problem.now) member.now.block }
-    requires fixing { IsFixing problem.now member.now.kind member.now.block fixing.now }
-    ensures { result ≡ is_listed_by problem.now member.now.kind member.now.block g }
+    requires fixing { IsFixing problem.now shifts.now member.now.kind member.now.block fixing.now }
+    ensures { result ≡ is_listed_shift_by problem.now shifts.now member.now.kind member.now.block g }
+{
+    shifts.has(g) && is_listed(problem, shifts, member, fixing, g)
+}
+
+// Whether the member's translate by a shift g is listed.
+fn is_listed(problem: &Problem, shifts: &Subgroup, member: &Member, fixing: &Block, g: Elem) -> bool
+    requires below { g < order_of problem.now.group }
+    requires shift { has_member shifts.now g ≡ true }
+    requires rules { IsStated problem.now }
+    requires subgroup { IsSubgroup problem.now.group shifts.now }
+    requires set { IsSet (point_count problem.now) member.now.block }
+    requires fixing { IsFixing problem.now shifts.now member.now.kind member.now.block fixing.now }
+    ensures { result ≡ is_listed_by problem.now shifts.now member.now.kind member.now.block g }
 {
     match member.kind {
         Kind::Base => true,

@@ -15,12 +15,13 @@ mod verdict;
 
 pub use develop::Develop;
 pub use laws::{
-    division_leaves_no_rest, short_blocks_keep_first_occurrences, table_tells_balance,
-    translates_divide_the_order, translates_hold_preimages, verdict_tells_balance,
+    covers_are_found, division_leaves_no_rest, short_blocks_keep_first_occurrences,
+    table_tells_balance, translates_divide_the_order, translates_hold_preimages,
+    verdict_tells_balance,
 };
 pub use table::{Row, Table, difference_table};
 pub use translate::stabilizer;
 pub use verdict::{Verdict, verify};
 
-/// Memory was wanted and not there.
+/// Out of memory.
 pub type OutOfMemory = std::alloc::AllocError;

@@ -1,10 +1,15 @@
 // The difference table.
+//
+// A pair of points lies in as many blocks of the development as its row is found: a row for each difference of two elements, for each fixed
+// point with an element, and for each two fixed points. So the rows, fewer than 264, stand for all pairs, and the table is filled by one look
+// at each block of the family, with no block developed. The numbers are counted first, in a tally, and then put beside the targets.
 ghost use Rattle.std.specs.Prelude.{◌≡◌, ◌≢◌, ◌+◌, ◌≤◌, ◌<◌, ◌++◌, [], ◌∷◌, map, length, position, All, IfOk, OnOk};
 ghost use Rattle.df_group.specs.Elements.{order_of};
-ghost use Rattle.df_lang.specs.Problems.{point_count};
+ghost use Rattle.df_lang.specs.Problems.{IsStated, point_count};
 ghost use Rattle.df_lang.specs.Targets.{target as target_of};
+ghost use Rattle.df_family.specs.Developments.{develop};
 ghost use Rattle.df_family.specs.Tables.{differences, singles, pairs, pairs_of, stated as stated_of, entry, table, IsRow, entry_at, is_wrong};
-ghost use Rattle.df_family.specs.Tallies.{HasNumber, IsCell, IsTallyOf};
+ghost use Rattle.df_family.specs.Tallies.{number_at, HasNumber, IsCell, IsTallyOf};
 
 use crate::OutOfMemory;
 use crate::problem_parts::{fixed, fixed_point, order};
@@ -38,6 +43,13 @@ pub struct Entry {
 #[derive(Drop)]
 pub struct Table {
     entries: Vec<Entry>,
+}
+
+/// A difference table, and how many blocks the development has.
+#[derive(Drop)]
+pub struct Counted {
+    pub table: Table,
+    pub blocks: u64,
 }
 
 impl Model for Table {
@@ -90,29 +102,46 @@ impl Table {
 }
 
 /// The difference table of the problem's family: a row for each element but 0, for each fixed point and for each two fixed points.
-/// The error comes where memory is wanted and not there.
+/// The only error is out of memory.
 #[tactic(auto, using(crate::proofs::TableRows::entries_are))]
 pub fn difference_table(alloc: Global, problem: &Problem) -> Result<Table, OutOfMemory>
     ensures table { IfOk result (λ t. t ≡ table problem.now) }
     ensures rows { All (λ e. IsRow problem.now e.row) (table problem.now) }
 {
-    let tally = tally_of(problem);
+    let counted = counted_table(alloc, problem)?;
+    Ok(counted.table)
+}
+
+/// The difference table of the problem's family, and how many blocks its development has. The only error is out of memory.
+pub fn counted_table(alloc: Global, problem: &Problem) -> Result<Counted, OutOfMemory>
+    ensures table { IfOk result (λ c. c.table ≡ table problem.now) }
+    ensures blocks { IfOk result (λ c. c.blocks ≡ length (develop problem.now)) }
+    ensures rules { IsStated problem.now }
+{
+    let mut tally = Tally::new();
+    let blocks = count_family(&mut tally, problem);
     let mut entries = Vec::new(alloc);
     push_differences(&mut entries, problem, &tally)?;
     push_singles(&mut entries, problem, &tally)?;
     push_pairs(&mut entries, problem, &tally)?;
-    Ok(Table { entries })
+    Ok(Counted {
+        table: Table { entries },
+        blocks,
+    })
 }
 
-// How often each row is found in the family.
-fn tally_of(problem: &Problem) -> Tally
-    ensures { IsTallyOf problem.now result }
+// Counts how often each row is found in the family, and how many blocks its development has.
+fn count_family(tally: &mut Tally, problem: &Problem) -> u64
+    requires { (row : Row) → number_at tally.old row ≡ 0 }
+    ensures tally { IsTallyOf problem.now tally.new }
+    ensures blocks { result ≡ length (develop problem.now) }
+    ensures rules { IsStated problem.now }
 {
-    let mut tally = Tally::new();
+    let mut blocks = 0;
     for member in &problem.family {
-        tally.count_member(problem, member);
+        blocks += tally.count_member(problem, member);
     }
-    tally
+    blocks
 }
 
 fn push_differences(

@@ -1,11 +1,13 @@
 // Translates of blocks, and the translations that fix a block.
-ghost use Rattle.std.specs.Prelude.{◌≡◌, ◌≤◌, ◌<◌, All, length, filter};
+ghost use Rattle.std.specs.Prelude.{◌≡◌, ◌≤◌, ◌<◌, ◌&&◌, All, length, filter};
+ghost use Rattle.df_lists.specs.NumberSets.{has_member};
 ghost use Rattle.df_group.specs.Elements.{order_of};
+ghost use Rattle.df_group.specs.Subgroups.{IsSubgroup};
 ghost use Rattle.df_lang.specs.Problems.{point_count};
-ghost use Rattle.df_family.specs.Translates.{elements, shifted as shifted_point, translate, fixes, stabilizer as stabilizer_of};
+ghost use Rattle.df_family.specs.Translates.{shifted as shifted_point, translate, fixes, stabilizer as stabilizer_of};
 
 use crate::problem_parts::{order, sum};
-use df_group::Elem;
+use df_group::{Elem, Subgroup};
 use df_lang::Problem;
 use df_subsets::{Block, Point};
 
@@ -15,21 +17,32 @@ pub fn stabilizer(problem: &Problem, block: &Block) -> u32
     ensures count { result ≡ stabilizer_of problem.now block.now }
     ensures some { result ≤ order_of problem.now.group }
 {
-    u32::from(fixing(problem, block).size())
+    let elements = Subgroup::whole(&problem.shape);
+    u32::from(fixing(problem, &elements, block).size())
 }
 
-/// The elements g with block + g = block, as a set of points.
-pub fn fixing(problem: &Problem, block: &Block) -> Block
-    requires { All (λ p. p < point_count problem.now) block.now }
-    ensures { result ≡ filter (fixes problem.now block.now) (elements problem.now) }
+/// The elements g of a subgroup with block + g = block, as a set of points.
+pub fn fixing(problem: &Problem, shifts: &Subgroup, block: &Block) -> Block
+    requires subgroup { IsSubgroup problem.now.group shifts.now }
+    requires points { All (λ p. p < point_count problem.now) block.now }
+    ensures { result ≡ filter (fixes problem.now block.now) shifts.now }
 {
     let mut fixing = Block::empty();
     for g in 0..order(problem) {
-        if translated(problem, block, Elem(g)) == *block {
+        if is_fixing(problem, shifts, block, Elem(g)) {
             fixing.insert(Point(g));
         }
     }
     fixing
+}
+
+// Whether g is one of the shifts and block + g = block.
+fn is_fixing(problem: &Problem, shifts: &Subgroup, block: &Block, g: Elem) -> bool
+    requires g { g < order_of problem.now.group }
+    requires points { All (λ p. p < point_count problem.now) block.now }
+    ensures { result ≡ (has_member shifts.now g && fixes problem.now block.now g) }
+{
+    shifts.has(g) && translated(problem, block, g) == *block
 }
 
 /// block + g.

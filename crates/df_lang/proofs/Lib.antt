@@ -21,6 +21,7 @@ pub mod SectionsBack
 pub mod SectionsLeft
 pub mod SetsBelow
 pub mod SizesRise
+pub mod SourcesKept
 pub mod SourceBack
 pub mod StatementsKept
 pub mod StepsBack

@@ -4,6 +4,7 @@ use Rattle.std.specs.List.{AllPairs}
 use Rattle.df_lists.specs.NumberSets.{IsSet}
 use Rattle.df_group.specs.Elements.{order_of, IsShape}
 use Rattle.df_lang.specs.declared.parts.Member.{Member}
+use Rattle.df_lang.specs.declared.problem.TheConstants.{MOST_BLOCKS}
 use Rattle.df_lang.specs.Problems.{Named, IsNamed, DifferInName, IsWord, IsInside, IsMultiplier, IsSize, IsTarget, IsBlock}
 use Rattle.df_lang.specs.StandsAbove.{Above, nothing, fixed_of, version_of}
 
@@ -35,10 +36,10 @@ pub record SizesKept (version v : ℕ) (ks : List ℕ) : Type 0 where
 
 pub record BlocksKept (version v : ℕ) (ks : List ℕ) (ms : List Member) (rs ns : List (List ℕ)) : Type 0 where
   pub family : All (λ m. IsBlock v ks m.block) ms
-  pub few : length ms ≤ 4096
+  pub few : length ms ≤ MOST_BLOCKS
   pub required : All (IsBlock v ks) rs
   pub forbidden : All (IsBlock v ks) ns
-  pub few_stated : length rs + length ns ≤ 4096
+  pub few_stated : length rs + length ns ≤ MOST_BLOCKS
   pub none_required : version ≡ 1 → rs ≡ []
   pub none_forbidden : version ≡ 1 → ns ≡ []
 

@@ -7,6 +7,7 @@ pub mod Pieces
 pub mod Problems
 pub mod RoundTrip
 pub mod Rules
+pub mod RulesLaw
 pub mod Separated
 pub mod Sources
 pub mod StandsAbove

@@ -1,5 +1,5 @@
 -- A problem as numbers and lists, and the rules that it keeps.
-use Rattle.std.specs.Prelude.{◌≡◌, ◌≢◌, ℕ, ◌+◌, ◌<◌, ◌≤◌, ◌^◌, true, false, List, [], length, All, Option, IfSome, ⊤, ◌⊎◌}
+use Rattle.std.specs.Prelude.{◌≡◌, ◌≢◌, ℕ, ◌+◌, ◌<◌, ◌≤◌, true, false, List, [], length, All, Option, IfSome, ⊤, ◌⊎◌}
 use Rattle.std.specs.List.{AllPairs}
 use Rattle.df_lists.specs.NumberSets.{has_member, IsSet}
 use Rattle.df_group.specs.Elements.{order_of, IsShape}
@@ -8,6 +8,7 @@ use Rattle.df_lang.specs.declared.parts.Which.{Which}
 use Rattle.df_lang.specs.declared.parts.Which.TheVariants as which
 use Rattle.df_lang.specs.declared.parts.Inside.{Inside}
 use Rattle.df_lang.specs.declared.parts.Member.{Member}
+use Rattle.df_lang.specs.declared.problem.TheConstants.{MOST_TARGET, MOST_BLOCKS, NAMES_LIMIT}
 use Rattle.df_lang.specs.Names.{is_name, is_reserved}
 
 -- a name and the members of its subgroup
@@ -35,7 +36,7 @@ abbrev pub point_count : Stated → ℕ
 point_count p = order_of p.group + p.fixed
 
 abbrev pub IsTarget : ℕ → Type 0
-IsTarget n = n ≤ 2000000
+IsTarget n = n ≤ MOST_TARGET
 
 -- the name and the subgroup of a line of its own
 pub record IsNamed (fs : List ℕ) (named : Named) : Type 0 where
@@ -85,7 +86,7 @@ pub record IsStated (p : Stated) : Type 0 where
   pub points : point_count p ≤ 128
   pub names : All (IsNamed p.group) p.names
   pub apart : AllPairs DifferInName p.names
-  pub few_names : length p.names < 2 ^ 32
+  pub few_names : length p.names < NAMES_LIMIT
   pub shift : IsWord p.names p.shift
   pub mults : All (IsMultiplier p.group) p.mults
   pub mults_once : AllPairs (λ m n. m ≢ n) p.mults
@@ -96,8 +97,8 @@ pub record IsStated (p : Stated) : Type 0 where
   pub inside : IfSome p.inside (IsInside p.names)
   pub hole : IsTarget p.hole
   pub family : All (λ m. IsBlock (point_count p) p.sizes m.block) p.family
-  pub few_blocks : length p.family ≤ 4096
+  pub few_blocks : length p.family ≤ MOST_BLOCKS
   pub required : All (IsBlock (point_count p) p.sizes) p.required
   pub forbidden : All (IsBlock (point_count p) p.sizes) p.forbidden
-  pub few_stated : length p.required + length p.forbidden ≤ 4096
+  pub few_stated : length p.required + length p.forbidden ≤ MOST_BLOCKS
   pub first_version : p.version ≡ 1 → IsFirstVersion p

@@ -8,6 +8,7 @@ use Rattle.df_lang.specs.declared.parts.Kind.{Kind}
 use Rattle.df_lang.specs.declared.parts.Kind.TheVariants as kind
 use Rattle.df_lang.specs.declared.parts.Word.{Word}
 use Rattle.df_lang.specs.declared.parts.Word.TheVariants as word
+use Rattle.df_lang.specs.declared.problem.TheConstants.{MOST_TARGET, MOST_BLOCKS}
 use Rattle.df_lang.specs.Rules.{◌>>=◌, allowed, once, one_number}
 use Rattle.df_lang.specs.StandsAbove.{Above, group_of, sizes_of, fixed_of, version_of}
 use Rattle.df_lang.specs.Values.{factors_from, subgroup_of, shift_of, mults_from, sizes_read, inside_of, points_from}
@@ -42,7 +43,7 @@ size_line a tokens = once a.sizes >>= λ _. group_of a >>= λ fs. sizes_read (ve
 
 -- the target
 unfoldable pub lambda_line : Above → List (List ℕ) → Result Above SourceFault
-lambda_line a tokens = once a.lambda >>= λ _. group_of a >>= λ _. one_number 0 2000000 TargetRange tokens >>= λ n. Ok (record a { lambda = Some n })
+lambda_line a tokens = once a.lambda >>= λ _. group_of a >>= λ _. one_number 0 MOST_TARGET TargetRange tokens >>= λ n. Ok (record a { lambda = Some n })
 
 -- the target inside the cosets of a subgroup
 unfoldable pub inside_line : Above → List (List ℕ) → Result Above SourceFault
@@ -50,11 +51,11 @@ inside_line a tokens = once a.inside >>= λ _. group_of a >>= λ _. inside_of a.
 
 -- the target of two fixed points
 unfoldable pub hole_line : Above → List (List ℕ) → Result Above SourceFault
-hole_line a tokens = once a.hole >>= λ _. group_of a >>= λ _. one_number 0 2000000 TargetRange tokens >>= λ n. Ok (record a { hole = Some n })
+hole_line a tokens = once a.hole >>= λ _. group_of a >>= λ _. one_number 0 MOST_TARGET TargetRange tokens >>= λ n. Ok (record a { hole = Some n })
 
--- a block, where so many of its kind stand above: fewer than 4,096
+-- a block, where a number of its kind stand above: fewer than the most
 unfoldable pub block_of : Above → ℕ → List (List ℕ) → Result (List ℕ) SourceFault
-block_of a count tokens = group_of a >>= λ fs. sizes_of a >>= λ ks. allowed (nat_lt count 4096) TooManyBlocks >>= λ _. points_from fs (fixed_of a) ks [] tokens
+block_of a count tokens = group_of a >>= λ fs. sizes_of a >>= λ ks. allowed (nat_lt count MOST_BLOCKS) TooManyBlocks >>= λ _. points_from fs (fixed_of a) ks [] tokens
 
 -- a block of the family
 unfoldable pub member_line : Above → Kind → List (List ℕ) → Result Above SourceFault

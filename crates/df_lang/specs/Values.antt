@@ -10,6 +10,7 @@ use Rattle.df_lang.specs.declared.fault.SourceFault.TheVariants.{BadWord, BadEle
 use Rattle.df_lang.specs.declared.parts.Which.{Which}
 use Rattle.df_lang.specs.declared.parts.Which.TheVariants as which
 use Rattle.df_lang.specs.declared.parts.Inside.{Inside}
+use Rattle.df_lang.specs.declared.problem.TheConstants.{MOST_TARGET}
 use Rattle.df_lang.specs.Names.{is_name, is_reserved}
 use Rattle.df_lang.specs.Problems.{Named}
 use Rattle.df_lang.specs.Rules.{◌>>=◌, ◌>>?◌, must, allowed, next, end, value_of, number_of, number_in}
@@ -99,7 +100,7 @@ sizes_read version most tokens =
 
 -- the number of a target
 abbrev pub target_of : List ℕ → Result ℕ SourceFault
-target_of token = number_in 0 2000000 TargetRange token
+target_of token = number_in 0 MOST_TARGET TargetRange token
 
 -- a subgroup word and a target
 unfoldable pub inside_of : List Named → List (List ℕ) → Result Inside SourceFault

@@ -8,6 +8,7 @@ use crate::blocks::block;
 use crate::draft::Draft;
 use crate::fault::{Needed, SourceFault, Stop};
 use crate::parts::{Kind, Member};
+use crate::problem::MOST_BLOCKS;
 use df_io::Tokens;
 use df_subsets::Block;
 
@@ -20,7 +21,7 @@ impl Draft {
         let Some(sizes) = &self.sizes else {
             return Err(SourceFault::Missing(Needed::Size));
         };
-        if count >= 4096 {
+        if count >= MOST_BLOCKS {
             return Err(SourceFault::TooManyBlocks);
         }
         block(

@@ -1,11 +1,11 @@
 // The canonical lines of a problem, by their numbers.
 ghost use Rattle.std.specs.Bool.{OnFalse};
-ghost use Rattle.std.specs.Prelude.{◌≡◌, ◌<◌, ◌^◌, [], Some, None, All, if◌then◌else◌, length, slice_get, slice_index_or};
+ghost use Rattle.std.specs.Prelude.{◌≡◌, ◌<◌, [], Some, None, All, if◌then◌else◌, length, slice_get, slice_index_or};
 ghost use Rattle.arrayvec.specs.ArrayVec.{array_vec_len};
 ghost use Rattle.df_io.specs.Joined.{spaced};
 ghost use Rattle.df_lang.specs.Canonical.{canonical, statements_in, subgroup_tokens};
 
-use crate::problem::Problem;
+use crate::problem::{NAMES_LIMIT, Problem};
 use crate::put::{
     put_block_statement, put_inside, put_member, put_number_statement, put_numbers_statement,
     put_shift, put_sizes_statement, put_subgroup,
@@ -90,7 +90,7 @@ pub fn canonical_lines_are_short(problem: &Problem)
 #[tactic(auto, unfolding(crate::specs::Canonical::statements_in))]
 fn statement_count(problem: &Problem, section: Section) -> usize
     ensures count { result ≡ length (statements_in problem.now section) }
-    ensures small { result < 2 ^ 32 }
+    ensures small { result < NAMES_LIMIT }
 {
     match section {
         Section::Version => usize::from(problem.version == 2),

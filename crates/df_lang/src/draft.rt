@@ -1,6 +1,7 @@
 // What stands above a line, from the line of the group on.
-ghost use Rattle.std.specs.Prelude.{◌≤◌, ◌<◌, ◌+◌, ◌^◌, length, map, unwrap_or, All};
+ghost use Rattle.std.specs.Prelude.{◌≤◌, ◌<◌, ◌+◌, length, map, unwrap_or, All};
 ghost use Rattle.df_group.specs.Elements.{order_of};
+ghost use Rattle.df_lang.specs.declared.problem.TheConstants.{NAMES_LIMIT};
 ghost use Rattle.df_lang.specs.Problems.{Named};
 ghost use Rattle.df_lang.specs.Stored.{named};
 
@@ -27,6 +28,6 @@ pub(crate) struct Draft {
     pub(crate) required: Vec<Block>,
     pub(crate) forbidden: Vec<Block>,
     ghost points: { order_of shape + unwrap_or fixed 0 ≤ 128 },
-    ghost few_names: { length names.entries < 2 ^ 32 },
+    ghost few_names: { length names.entries < NAMES_LIMIT },
     ghost short_names: { All (λ (n : Named). length n.0 ≤ 16) (map named names.entries) },
 }

@@ -44,9 +44,9 @@ pub enum SourceFault {
     FixedRange,
     /// The size isn't from 2 to 16, or is above the number of points.
     SizeRange,
-    /// The target is above 2,000,000.
+    /// The target is above `MOST_TARGET`.
     TargetRange,
-    /// 4,096 blocks of the kind stand above.
+    /// `MOST_BLOCKS` blocks of the kind stand above.
     TooManyBlocks,
 }
 

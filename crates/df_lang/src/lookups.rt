@@ -1,5 +1,5 @@
 // Names of subgroups, looked up in the table.
-ghost use Rattle.std.specs.Prelude.{◌≡◌, ◌≤◌, ◌<◌, ◌^◌, length, map, All, Ok, Err, MatchResult, IfSome, IfOk, None};
+ghost use Rattle.std.specs.Prelude.{◌≡◌, ◌≤◌, ◌<◌, length, map, All, Ok, Err, MatchResult, IfSome, IfOk, None};
 ghost use Rattle.df_lang.specs.Problems.{Named};
 ghost use Rattle.df_lang.specs.Stored.{named};
 ghost use Rattle.df_lang.specs.Values.{place_of, name_of, which_of};
@@ -7,6 +7,7 @@ ghost use Rattle.df_lang.specs.Values.{place_of, name_of, which_of};
 use crate::fault::SourceFault;
 use crate::names::{is_name, is_reserved, name};
 use crate::parts::{Name, Which};
+use crate::problem::NAMES_LIMIT;
 use df_group::Subgroup;
 use indexmap::IndexMap;
 
@@ -44,7 +45,7 @@ pub(crate) fn new_name(names: &IndexMap<Name, Subgroup>, token: &[u8]) -> Result
 #[tactic(auto, unfolding(crate::specs::Values::which_of))]
 pub(crate) fn which(names: &IndexMap<Name, Subgroup>, token: &[u8]) -> Result<Which, SourceFault>
     requires short { All (λ (n : Named). length n.0 ≤ 16) (map named names.now.entries) }
-    requires few { length names.now.entries < 2 ^ 32 }
+    requires few { length names.now.entries < NAMES_LIMIT }
     ensures { result ≡ which_of (map named names.now.entries) token.now }
 {
     if token == b"all".as_slice() {

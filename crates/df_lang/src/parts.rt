@@ -39,7 +39,7 @@ pub struct Member {
 pub struct Inside {
     /// The subgroup whose cosets are meant.
     pub subgroup: Which,
-    /// The target of two elements of one coset, at most 2,000,000.
+    /// The target of two elements of one coset, at most `MOST_TARGET`.
     pub target: u32,
 }
 

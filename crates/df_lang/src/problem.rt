@@ -6,6 +6,15 @@ use df_subsets::Block;
 use indexmap::IndexMap;
 use std::marker::Model;
 
+/// The greatest target.
+pub const MOST_TARGET: u64 = 2_000_000;
+
+/// The most blocks of a family, and the most required and forbidden blocks together.
+pub const MOST_BLOCKS: usize = 4_096;
+
+/// There are fewer named subgroups than this, so that 32 bits number them.
+pub const NAMES_LIMIT: usize = 4_294_967_296;
+
 /// What a source states, with the rules that it keeps. Contracts see it as a record of numbers and lists.
 #[derive(Drop)]
 pub struct Problem {
@@ -15,7 +24,7 @@ pub struct Problem {
     pub shape: Shape,
     /// The number of fixed points, at most 16. With the elements there are at most 128 points.
     pub fixed: u8,
-    /// The named subgroups of the group, fewer than 4,294,967,296, in the order of their lines.
+    /// The named subgroups of the group, fewer than `NAMES_LIMIT`, in the order of their lines.
     pub names: IndexMap<Name, Subgroup>,
     /// The subgroup whose elements shift a design to itself.
     pub shift: Which,
@@ -23,15 +32,15 @@ pub struct Problem {
     pub mults: ArrayVec<u16, 128>,
     /// The sizes of the blocks: at least one, increasing, each from 2 to 16 and at most the number of points.
     pub sizes: ArrayVec<u8, 15>,
-    /// The target of two points, at most 2,000,000, where `inside` and `hole` say nothing else.
+    /// The target of two points, at most `MOST_TARGET`, where `inside` and `hole` say nothing else.
     pub lambda: u32,
     /// The target of two elements of one coset of a subgroup, where it is stated.
     pub inside: Option<Inside>,
-    /// The target of two fixed points, at most 2,000,000.
+    /// The target of two fixed points, at most `MOST_TARGET`.
     pub hole: u32,
-    /// The blocks to develop, at most 4,096, of points below the number of points and of the sizes.
+    /// The blocks to develop, at most `MOST_BLOCKS`, of points below the number of points and of the sizes.
     pub family: Vec<Member>,
-    /// The blocks that a design has to have; with the forbidden ones at most 4,096, of points below the number of points and of the sizes.
+    /// The blocks that a design has to have; with the forbidden ones at most `MOST_BLOCKS`, of points below the number of points and of the sizes.
     pub required: Vec<Block>,
     /// The blocks that a design may not have.
     pub forbidden: Vec<Block>,

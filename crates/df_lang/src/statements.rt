@@ -12,6 +12,7 @@ use crate::generators::elements;
 use crate::lookups::{new_name, which};
 use crate::multipliers::multipliers;
 use crate::parts::{Inside, Name};
+use crate::problem::{MOST_TARGET, NAMES_LIMIT};
 use crate::sizes::{size_list, sizes};
 use crate::tokens::{end, needed, number_in, one_number};
 use df_group::Subgroup;
@@ -45,13 +46,13 @@ impl Draft {
         self.add_subgroup(name, subgroup)
     }
 
-    // A table of 4,294,967,295 names is full. No source of at most 4,294,967,296 bytes fills it.
+    // A table of one name less than `NAMES_LIMIT` is full. No source of at most 4,294,967,296 bytes fills it.
     fn add_subgroup(&mut self, name: Name, subgroup: Subgroup) -> Result<(), Stop>
         requires absent { place_of (map named self.old.names.entries) name.items ≡ None }
         requires short { length name.items ≤ 16 }
         ensures { GoesOn (Ok (record (above self.old) { names = (above self.old).names ++ (name.items, subgroup) ∷ [] })) (above self.new) result }
     {
-        if self.names.len() >= 4_294_967_295 {
+        if self.names.len() >= NAMES_LIMIT - 1 {
             return Err(Stop::OutOfMemory);
         }
         match self.names.insert(name, subgroup) {
@@ -110,7 +111,7 @@ impl Draft {
         if self.lambda.is_some() {
             return Err(SourceFault::Repeated);
         }
-        let target = one_number(0, 2_000_000, SourceFault::TargetRange, tokens)?;
+        let target = one_number(0, MOST_TARGET, SourceFault::TargetRange, tokens)?;
         self.lambda = Some(target as u32);
         Ok(())
     }
@@ -126,7 +127,7 @@ impl Draft {
         let first = needed(tokens)?;
         let subgroup = which(&self.names, first)?;
         let second = needed(tokens)?;
-        let target = number_in(0, 2_000_000, SourceFault::TargetRange, second)?;
+        let target = number_in(0, MOST_TARGET, SourceFault::TargetRange, second)?;
         end(tokens)?;
         self.inside = Some(Inside {
             subgroup,
@@ -143,7 +144,7 @@ impl Draft {
         if self.hole.is_some() {
             return Err(SourceFault::Repeated);
         }
-        let target = one_number(0, 2_000_000, SourceFault::TargetRange, tokens)?;
+        let target = one_number(0, MOST_TARGET, SourceFault::TargetRange, tokens)?;
         self.hole = Some(target as u32);
         Ok(())
     }

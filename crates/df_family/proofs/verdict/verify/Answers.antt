@@ -11,14 +11,14 @@ use Rattle.df_family.proofs.verdict.verify.Goals as goal
 pub returns-clause-row : goal.returns-clause-row
 returns-clause-row c =
     let s = c.args.problem.now in
-    subst (λ (v : Verdict). IsVerdictOn s v) (sym c.verdict_by.ensures.verdict) (verdict_is s)
+    subst (λ (v : Verdict). IsVerdictOn s v) (sym c.verdict_by.ensures) (verdict_is s)
 
 pub returns-clause-rows : goal.returns-clause-rows
 returns-clause-rows c =
     let s = c.args.problem.now in
-    subst (λ (v : Verdict). (is_accepted v ≡ true) ↔ IsAsStated s) (sym c.verdict_by.ensures.verdict) (accepts_rows s)
+    subst (λ (v : Verdict). (is_accepted v ≡ true) ↔ IsAsStated s) (sym c.verdict_by.ensures) (accepts_rows s)
 
 pub returns-clause-balance : goal.returns-clause-balance
 returns-clause-balance c =
     let s = c.args.problem.now in
-    subst (λ (v : Verdict). (is_accepted v ≡ true) ↔ IsBalanced s (develop s)) (sym c.verdict_by.ensures.verdict) (verdict_law s c.verdict_by.ensures.rules)
+    subst (λ (v : Verdict). (is_accepted v ≡ true) ↔ IsBalanced s (develop s)) (sym c.verdict_by.ensures) (verdict_law s c.counted_table.ensures.rules)

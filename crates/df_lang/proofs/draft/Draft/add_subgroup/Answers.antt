@@ -9,7 +9,7 @@ pub invariant_of-self-clause-few_names : goal.invariant_of-self-clause-few_names
 invariant_of-self-clause-few_names c =
     let old = c.args.self.now.names.entries in
     let new = c.insert.new.self.entries in
-    let few : length old < 2 ^ 32 - 1 = omega (arith, c.len.ensures.len, c.if-len-ge4294967295.false) in
+    let few : length old < 2 ^ 32 - 1 = omega (arith, c.len.ensures.len, c.if-len.false) in
     few_grown old new (c.args.name, c.args.subgroup) (grown c.insert.result old new c.args.name c.args.subgroup c.insert.ensures.entries c.insert.ensures.err c.requires.absent) few
 
 pub invariant_of-self-clause-short_names : goal.invariant_of-self-clause-short_names
