@@ -1,18 +1,21 @@
 -- A subgroup with one more generator is made of the cosets by the multiples below the first one that is in already.
-use Rattle.std.proofs.Common.{◌≡◌, ℕ, zero, suc, ◌+◌, ◌-◌, ◌*◌, ◌/◌, ◌%◌, ◌<◌, ◌≤◌, Bool, true, ◌&&◌, ◌||◌, eqb, List, ◌∷◌, refl, sym, ap, ◌∙◌, subst, arith, eq-eqb, eqb-true, div-add-mod', mod-lt}
+use Rattle.std.proofs.Common.{◌≡◌, ℕ, zero, suc, ◌+◌, ◌-◌, ◌*◌, ◌/◌, ◌%◌, ◌<◌, ◌≤◌, Bool, true, false, ◌&&◌, ◌||◌, eqb, List, ◌∷◌, refl, sym, ap, ◌∙◌, subst, arith, eq-eqb, eqb-true, div-add-mod', mod-lt}
 use Rattle.std.specs.Cmp.{both_ways as same_tests}
 use Rattle.std.proofs.lemmas.Bool.{and_parts}
+use Rattle.std.specs.List.{list_any}
 use Rattle.df_lists.specs.Membership.{In}
 use Rattle.df_lists.specs.LeastMembers.{any_below}
-use Rattle.df_lists.specs.NumberSets.{has_member, IsSet}
+use Rattle.df_lists.specs.NumberSets.{has_member, with_member, IsSet}
 use Rattle.df_lists.proofs.LeastLaws.{any_from, any_found}
+use Rattle.df_lists.proofs.SetLaws.{set_below, set_longer}
+use Rattle.df_lists.proofs.RisingLists.{has_more}
 use Rattle.df_group.specs.Elements.{group_of, order_of, IsShape}
 use Rattle.df_group.specs.Subgroups.{exponent_of, sums, generated, IsKept, IsSubgroup}
 use Rattle.df_group.proofs.ElementLaws.{is_group}
 use Rattle.df_group.proofs.GroupLaws.{zero_plus}
 use Rattle.df_group.proofs.MultipleLaws.{are_multiples}
 use Rattle.df_group.proofs.SumLaws.{sum_within, sum_plus, sum_times}
-use Rattle.df_group.proofs.GeneratedSets.{sum_member, member_sum, next_generated, generated_set, set_longer}
+use Rattle.df_group.proofs.GeneratedSets.{sum_member, member_sum, next_generated, generated_set}
 
 -- x is the sum of a multiple of g below the c-th and a member
 abbrev pub is_reached : List ℕ → ℕ → List ℕ → ℕ → ℕ → Bool
@@ -86,3 +89,20 @@ extended_first fs is g c set next (hs, d) some low m kept h gs e =
 pub subgroup_kept : (fs : List ℕ) → IsShape fs → (set : List ℕ) → IsSubgroup fs set → IsKept set
 unfolding IsKept
 subgroup_kept fs is set (gs, e) = set_longer (order_of fs) 128 set is.small (subst (IsSet (order_of fs)) e (generated_set fs gs))
+
+-- each member of a subgroup is an element
+pub subgroup_below : (fs set : List ℕ) → IsSubgroup fs set → (s : ℕ) → has_member set s ≡ true → s < order_of fs
+subgroup_below fs set (gs, e) s h = set_below (order_of fs) set (subst (IsSet (order_of fs)) e (generated_set fs gs)) s h
+
+-- the sum with the next member is put in: what is there and what is still to come stays
+pub coset_step : (now new rest more : List ℕ) (f : ℕ → ℕ) (s x : ℕ) → new ≡ with_member (f s) now → rest ≡ s ∷ more
+    → (has_member new x || list_any (λ s. eqb (f s) x) more) ≡ (has_member now x || list_any (λ s. eqb (f s) x) rest)
+coset_step now new rest more f s x e r =
+    ap (λ v. v || list_any (λ s. eqb (f s) x) more) (ap (λ l. has_member l x) e ∙ has_more (f s) x now)
+    ∙ turned (eqb (f s) x) (has_member now x) (list_any (λ s. eqb (f s) x) more)
+    ∙ sym (ap (λ l. has_member now x || list_any (λ s. eqb (f s) x) l) r)
+  where
+    turned : (a b c : Bool) → ((a || b) || c) ≡ (b || (a || c))
+    turned true true c = refl
+    turned true false c = refl
+    turned false b c = refl
