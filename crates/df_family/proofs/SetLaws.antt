@@ -3,7 +3,7 @@ use Rattle.std.proofs.Common.{◌≡◌, ◌≢◌, ℕ, zero, suc, ◌+◌, ◌
 use Rattle.std.specs.List.{range_with_len}
 use Rattle.std.proofs.lemmas.List.{map_more}
 use Rattle.df_lists.specs.NumberSets.{has_member, set_of, with_member}
-use Rattle.df_lists.specs.BitLaws.{placed, filter_more}
+use Rattle.df_lists.proofs.RangeLaws.{placed, filter_more}
 
 has_last : (xs : List ℕ) (x : ℕ) → has_member (xs ++ x ∷ []) x ≡ true
 has_last [] x = rw (eq-eqb x x refl) refl

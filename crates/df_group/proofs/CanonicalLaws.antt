@@ -7,15 +7,17 @@ use Rattle.std.specs.List.{range_with_len}
 use Rattle.df_lists.specs.Membership.{In}
 use Rattle.df_lists.specs.NumberSets.{has_member, IsSet}
 use Rattle.df_lists.specs.Totals.{total, one}
-use Rattle.df_lists.specs.BitLaws.{filter_more}
+use Rattle.df_lists.proofs.RangeLaws.{filter_more}
 use Rattle.df_lists.proofs.TotalLaws.{total_add, total_turn}
 use Rattle.df_lists.proofs.MemberLaws.{In-append_cases, In-append_left, In-append_right}
+use Rattle.df_lists.proofs.SetLaws.{same_sets}
+use Rattle.df_lists.proofs.TestLaws.{has_from, has_gives}
 use Rattle.df_group.specs.Elements.{group_of, order_of, minus, IsShape}
 use Rattle.df_group.specs.Subgroups.{sums, generated, canonical_from, canonical_of, IsSubgroup}
 use Rattle.df_group.proofs.ElementLaws.{is_group}
 use Rattle.df_group.proofs.GroupLaws.{turns_less, minus_minus, less_more}
-use Rattle.df_group.proofs.SumLaws.{has_In, In_has, sum_tail, sum_within, sum_generator, sum_plus, sum_minus, sum_least, sum_among}
-use Rattle.df_group.proofs.GeneratedSets.{same_sets, generated_set, generated_none, generated_turn, sum_member, member_sum}
+use Rattle.df_group.proofs.SumLaws.{sum_tail, sum_within, sum_generator, sum_plus, sum_minus, sum_least, sum_among}
+use Rattle.df_group.proofs.GeneratedSets.{generated_set, generated_none, generated_turn, sum_member, member_sum}
 
 -- sizes as totals
 pub size_total : (t : ℕ → Bool) (n : ℕ) → length (filter t (range_with_len 0 n)) ≡ total (λ i. one (t i)) n
@@ -67,7 +69,7 @@ module _ (fs : List ℕ) (is : IsShape fs) where
       omega (arith, generated_size gs, generated_size (g ∷ gs), total_add S T n, turned, both)
     where
       inside : (i : ℕ) → In (sums fs (g ∷ gs)) i → (k : ℕ) → k ≤ 1 → k ≤ one (has_member (sums fs (g ∷ gs)) i)
-      inside i j k m = let e = ap one (In_has (sums fs (g ∷ gs)) i j) in omega arith
+      inside i j k m = let e = ap one (has_from (sums fs (g ∷ gs)) i j) in omega arith
 
       through : (i : ℕ) → i < order_of fs → In (sums fs gs) (minus (group_of fs) i g) → In (sums fs (g ∷ gs)) i
       through i k j =
@@ -77,11 +79,11 @@ module _ (fs : List ℕ) (is : IsShape fs) where
 
       part : (i : ℕ) → i < order_of fs → (v w : Bool) → has_member (sums fs gs) i ≡ v → has_member (sums fs gs) (minus (group_of fs) i g) ≡ w → one v + one w ≤ one (has_member (sums fs (g ∷ gs)) i)
       part i k true true e f =
-          let j = sum_minus fs is gs i (minus (group_of fs) i g) (has_In (sums fs gs) i e) (has_In (sums fs gs) (minus (group_of fs) i g) f) in
+          let j = sum_minus fs is gs i (minus (group_of fs) i g) (has_gives (sums fs gs) i e) (has_gives (sums fs gs) (minus (group_of fs) i g) f) in
           let own = subst (In (sums fs gs)) (minus_minus (group_of fs) (is_group fs is) i g k l) j in
           absurd (both_ways (has_member (generated fs gs) g) out (sum_member fs is gs g own))
-      part i k true false e f = inside i (sum_tail fs is g gs i (has_In (sums fs gs) i e)) 1 (omega arith)
-      part i k false true e f = inside i (through i k (has_In (sums fs gs) (minus (group_of fs) i g) f)) 1 (omega arith)
+      part i k true false e f = inside i (sum_tail fs is g gs i (has_gives (sums fs gs) i e)) 1 (omega arith)
+      part i k false true e f = inside i (through i k (has_gives (sums fs gs) (minus (group_of fs) i g) f)) 1 (omega arith)
       part i k false false e f = omega arith
 
   -- more generators, more members
@@ -137,8 +139,8 @@ module _ (fs : List ℕ) (is : IsShape fs) where
   generates_closed members set none plus =
       same_sets (order_of fs) (generated fs members) members (generated_set fs members) set
       (λ x l. same_tests (has_member (generated fs members) x) (has_member members x)
-      (λ h. sum_least fs is (λ a. has_member members a ≡ true) none plus members (λ g i. In_has members g i) x (member_sum fs is members x h))
-      (λ h. sum_member fs is members x (sum_generator fs is members x l (has_In members x h))))
+      (λ h. sum_least fs is (λ a. has_member members a ≡ true) none plus members (λ g i. has_from members g i) x (member_sum fs is members x h))
+      (λ h. sum_member fs is members x (sum_generator fs is members x l (has_gives members x h))))
 
   -- canonical generators generate the subgroup
   pub canonical_generates : (members : List ℕ) → IsSubgroup fs members → generated fs (canonical_of fs members) ≡ members
@@ -153,12 +155,12 @@ module _ (fs : List ℕ) (is : IsShape fs) where
       there : (x : ℕ) → has_member (generated fs (canonical_from fs [] members)) x ≡ true → has_member members x ≡ true
       there x h =
           sym (ap (λ l. has_member l x) e)
-          ∙ sum_member fs is gs x (sum_among fs is (canonical_from fs [] members) gs (λ g i. known g (In_has members g (canonical_among [] members g i))) x (member_sum fs is (canonical_from fs [] members) x h))
+          ∙ sum_member fs is gs x (sum_among fs is (canonical_from fs [] members) gs (λ g i. known g (has_from members g (canonical_among [] members g i))) x (member_sum fs is (canonical_from fs [] members) x h))
 
       back : (x : ℕ) → has_member members x ≡ true → has_member (generated fs (canonical_from fs [] members)) x ≡ true
       back x h =
           sum_member fs is (canonical_from fs [] members) x
-          (canonical_covers [] members (λ g i. sum_within fs is gs g (known g (In_has members g i))) x (inr (has_In members x h)))
+          (canonical_covers [] members (λ g i. sum_within fs is gs g (known g (has_from members g i))) x (inr (has_gives members x h)))
 
   -- so there are at most 7
   few_from_size : (k size : ℕ) → 2 ^ k ≤ size → size ≤ 128 → k ≤ 7
@@ -206,7 +208,7 @@ module _ (fs : List ℕ) (is : IsShape fs) where
   unfolding canonical_of
   canonical_few members (gs, e) =
       taken_few (canonical_from fs [] members)
-      (canonical_taken [] members none_taken (λ g i. sum_within fs is gs g (member_sum fs is gs g (ap (λ l. has_member l g) e ∙ In_has members g i))))
+      (canonical_taken [] members none_taken (λ g i. sum_within fs is gs g (member_sum fs is gs g (ap (λ l. has_member l g) e ∙ has_from members g i))))
 
   -- one more element of the group: not a member, generated already, or one more generator
   pub from_outside : (members taken : List ℕ) (e : ℕ) → e < order_of fs → has_member members e ≡ false

@@ -5,40 +5,13 @@ use Rattle.std.proofs.lemmas.Bool.{eqb-true}
 use Rattle.std.specs.List.{flat_map, range_with_len}
 use Rattle.df_lists.specs.Membership.{In}
 use Rattle.df_lists.specs.NumberSets.{has_member}
-use Rattle.df_lists.proofs.MemberLaws.{In-append_cases, In-append_left, In-append_right, In-map, In-map_gives, In-range, In-range_gives}
+use Rattle.df_lists.proofs.MemberLaws.{In-flat_map, In-flat_map_gives, In-map, In-map_gives, In-range, In-range_gives}
 use Rattle.df_group.specs.Elements.{group_of, order_of, minus, IsShape}
 use Rattle.df_group.specs.Subgroups.{exponent_of, sums}
 use Rattle.df_group.proofs.ElementLaws.{is_group}
 use Rattle.df_group.proofs.ExponentLaws.{exponent_low}
 use Rattle.df_group.proofs.MultipleLaws.{are_multiples}
 use Rattle.df_group.proofs.GroupLaws.{zero_plus, neg_is, plus_four}
-
--- members as a test and as a fact
-pub has_In : (xs : List ℕ) (x : ℕ) → has_member xs x ≡ true → In xs x
-has_In [] x h = cc
-has_In (y ∷ xs) x h = go (eqb y x) refl h (has_In xs x)
-  where
-    go : (v : Bool) → eqb y x ≡ v → (v || has_member xs x) ≡ true → (has_member xs x ≡ true → In xs x) → In (y ∷ xs) x
-    go true e k more = inl (eqb-true y x e)
-    go false e k more = inr (more k)
-
-pub In_has : (xs : List ℕ) (x : ℕ) → In xs x → has_member xs x ≡ true
-In_has [] x i = absurd i
-In_has (y ∷ xs) x (inl e) = rw (eq-eqb y x e) refl
-In_has (y ∷ xs) x (inr i) = go (eqb y x) (In_has xs x i)
-  where
-    go : (v : Bool) → has_member xs x ≡ true → (v || has_member xs x) ≡ true
-    go true h = refl
-    go false h = h
-
-pub In-flat_map : {X Y : Type 0} (f : X → List Y) (xs : List X) (x : X) (y : Y) → In xs x → In (f x) y → In (flat_map f xs) y
-In-flat_map f [] x y i j = absurd i
-In-flat_map f (z ∷ xs) x y (inl e) j = In-append_left (f z) (flat_map f xs) y (subst (λ w. In (f w) y) (sym e) j)
-In-flat_map f (z ∷ xs) x y (inr i) j = In-append_right (f z) (flat_map f xs) y (In-flat_map f xs x y i j)
-
-pub In-flat_map_gives : {X Y : Type 0} (f : X → List Y) (xs : List X) (y : Y) → In (flat_map f xs) y → (x : X) × In xs x × In (f x) y
-In-flat_map_gives f [] y i = absurd i
-In-flat_map_gives f (x ∷ xs) y i = ⊎_elim (λ j. (x, inl refl, j)) (λ j. let r = In-flat_map_gives f xs y j in (r.0, inr r.1, r.2)) (In-append_cases (f x) (flat_map f xs) y i)
 
 module _ (fs : List ℕ) (is : IsShape fs) where
   -- a multiple of the first generator, and a sum of the others

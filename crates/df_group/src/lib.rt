@@ -4,6 +4,7 @@
 #![tactic(auto)]
 
 mod laws;
+mod places;
 mod residues;
 mod shape;
 mod subgroup;

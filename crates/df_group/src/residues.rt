@@ -1,6 +1,6 @@
-// Arithmetic place by place on lists of residues, one for each factor.
+// Lists of residues, one for each factor, and the numbers of elements.
 ghost use Rattle.std.specs.Prelude.{◌≡◌, ◌<◌, ◌≤◌, ◌^◌, ℕ, length, MatchBool};
-ghost use Rattle.df_group.specs.Elements.{order_of, IsElement, IsShape, number, residues, sum_of, negative_of, multiple_of};
+ghost use Rattle.df_group.specs.Elements.{order_of, IsElement, IsShape, number, residues};
 
 use arrayvec::ArrayVec;
 
@@ -50,48 +50,4 @@ pub fn number_of(factors: &[u16], residues: &[u16]) -> u8
         place = place * factors[i] + residues[i];
     }
     place as u8
-}
-
-/// The sum.
-pub fn sum(factors: &[u16], a: &[u16], b: &[u16]) -> ArrayVec<u16, 7>
-    requires shape { IsShape factors.now }
-    requires a { IsElement factors.now a.now }
-    requires b { IsElement factors.now b.now }
-    ensures residues { result.items ≡ sum_of factors.now a.now b.now }
-    ensures element { IsElement factors.now result.items }
-{
-    let mut sums = ArrayVec::new();
-    for i in 0..factors.len() {
-        sums.push((a[i] + b[i]) % factors[i]);
-    }
-    sums
-}
-
-/// The negative.
-pub fn negative(factors: &[u16], a: &[u16]) -> ArrayVec<u16, 7>
-    requires shape { IsShape factors.now }
-    requires a { IsElement factors.now a.now }
-    ensures residues { result.items ≡ negative_of factors.now a.now }
-    ensures element { IsElement factors.now result.items }
-{
-    let mut negatives = ArrayVec::new();
-    for i in 0..factors.len() {
-        negatives.push((factors[i] - a[i]) % factors[i]);
-    }
-    negatives
-}
-
-/// The integer multiple.
-pub fn multiple(factors: &[u16], m: u32, a: &[u16]) -> ArrayVec<u16, 7>
-    requires shape { IsShape factors.now }
-    requires a { IsElement factors.now a.now }
-    ensures residues { result.items ≡ multiple_of factors.now m a.now }
-    ensures element { IsElement factors.now result.items }
-{
-    let mut multiples = ArrayVec::new();
-    for i in 0..factors.len() {
-        let factor = u64::from(factors[i]);
-        multiples.push((u64::from(m) * u64::from(a[i]) % factor) as u16);
-    }
-    multiples
 }

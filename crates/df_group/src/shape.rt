@@ -5,7 +5,7 @@ ghost use Rattle.df_group.specs.Elements.{order_of, group_of, minus, number, res
 ghost use Rattle.df_group.specs.Refusals.{refusal, is_outside};
 ghost use Rattle.df_group.specs.Subgroups.{exponent_of, is_common_multiple, is_unit};
 
-use crate::residues;
+use crate::{places, residues};
 use arrayvec::ArrayVec;
 use std::marker::Model;
 
@@ -168,13 +168,7 @@ impl Shape {
         ensures sum { result ≡ (group_of self.now).plus a b }
         ensures below { result < order_of self.now }
     {
-        let factors = self.factors.as_slice();
-        let sum = residues::sum(
-            factors,
-            self.coords(a).as_slice(),
-            self.coords(b).as_slice(),
-        );
-        Elem(residues::number_of(factors, sum.as_slice()))
+        Elem(places::sum(self.factors.as_slice(), a.0, b.0))
     }
 
     /// The negative of an element below the order, place by place. The answer is below the order.
@@ -183,9 +177,7 @@ impl Shape {
         ensures negative { result ≡ (group_of self.now).neg a }
         ensures below { result < order_of self.now }
     {
-        let factors = self.factors.as_slice();
-        let negative = residues::negative(factors, self.coords(a).as_slice());
-        Elem(residues::number_of(factors, negative.as_slice()))
+        Elem(places::difference(self.factors.as_slice(), 0, a.0))
     }
 
     /// The sum of `a` and the negative of `b`, both below the order. The answer is below the order.
@@ -195,7 +187,7 @@ impl Shape {
         ensures difference { result ≡ minus (group_of self.now) a b }
         ensures below { result < order_of self.now }
     {
-        self.add(a, self.neg(b))
+        Elem(places::difference(self.factors.as_slice(), a.0, b.0))
     }
 
     /// `m` times an element below the order: each residue times `m`.
@@ -204,9 +196,8 @@ impl Shape {
         ensures multiple { result ≡ (group_of self.now).times m a }
         ensures below { result < order_of self.now }
     {
-        let factors = self.factors.as_slice();
-        let multiple = residues::multiple(factors, m, self.coords(a).as_slice());
-        Elem(residues::number_of(factors, multiple.as_slice()))
+        let m = reduced(m, self.exponent);
+        Elem(places::multiple(self.factors.as_slice(), m, a.0))
     }
 
     /// Whether `m` is prime to the exponent: no number from 2 on divides both.
@@ -222,6 +213,20 @@ impl Shape {
             }
         }
         true
+    }
+}
+
+// The remainder by the exponent, which gives the same multiples.
+fn reduced(m: u32, exponent: u8) -> u16
+    requires { 0 < exponent }
+    ensures value { result ≡ m % exponent }
+    ensures below { result < exponent }
+{
+    let exponent = u32::from(exponent);
+    if m < exponent {
+        m as u16
+    } else {
+        (m % exponent) as u16
     }
 }
 

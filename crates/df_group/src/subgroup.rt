@@ -1,39 +1,35 @@
-// Subgroups, as sets of 128 bits.
+// Subgroups, as sets of elements.
 ghost use Rattle.std.specs.Prelude.{◌≡◌, ◌==◌, ◌<◌, ◌≤◌, ℕ, ◌&&◌, ◌||◌, List, [], ◌∷◌, All, length, nat_eq};
 ghost use Rattle.std.specs.List.{range_with_len};
 ghost use Rattle.std.specs.Cmp.Lexicographic.{pointwise, lists_per, lists_equiv};
 ghost use Rattle.std.specs.Cmp.Rules.{comparing};
 ghost use Rattle.std.proofs.Common.{rules};
 ghost use Rattle.df_lists.specs.LeastMembers.{any_below};
-ghost use Rattle.df_lists.specs.NumberSets.{has_member, is_set, with_member};
+ghost use Rattle.df_lists.specs.NumberSets.{has_member, with_member};
 ghost use Rattle.df_group.specs.Elements.{order_of, group_of, IsShape};
 ghost use Rattle.df_group.specs.Subgroups.{generated, canonical_of, same_coset, IsKept, IsSubgroup};
 
 use crate::shape::{Elem, Shape};
 use arrayvec::ArrayVec;
+use df_sets::NumberSet;
 use std::marker::Model;
 
 /// A set of elements of a group with at most 128 elements, seen as the increasing list of their numbers.
 #[derive(Clone, Copy, Debug)]
 pub struct Subgroup {
-    bits: u128,
+    members: NumberSet,
 }
 
 impl Model for Subgroup {
-    ghost use Rattle.std.specs.Prelude.{◌<◌, ◌^◌, List, ℕ, refl};
-    ghost use Rattle.std.proofs.Common.{ap};
-    ghost use Rattle.df_lists.specs.NumberSets.{members, weight};
-    ghost use Rattle.df_lists.specs.BitLaws.{weight_members};
+    ghost use Rattle.std.specs.Prelude.{List, ℕ, refl};
 
     ghost Value = { List ℕ };
 
-    ghost view = { λ s. members s.bits };
+    ghost view = { λ s. s.members };
 
-    ghost invariant = { λ s. s.bits < 2 ^ 128 };
+    ghost inverse = { λ set. record { members = set } };
 
-    ghost inverse = { λ set. record { bits = weight set } };
-
-    ghost inverse_ok = { λ a h. ap (λ n. record { bits = n }) (weight_members a.bits h) };
+    ghost inverse_ok = { λ a h. refl };
 }
 
 impl Subgroup {
@@ -83,7 +79,7 @@ impl Subgroup {
     pub fn has(&self, e: Elem) -> bool
         ensures { result ≡ has_member self.now e }
     {
-        e.0 < 128 && is_kept(self.bits, e.0)
+        self.members.has(e.0)
     }
 
     /// The number of members, at most 128.
@@ -91,13 +87,7 @@ impl Subgroup {
         ensures order { result ≡ length self.now }
         ensures high { result ≤ 128 }
     {
-        let mut order = 0;
-        for e in 0..128u8 {
-            if is_kept(self.bits, e) {
-                order += 1;
-            }
-        }
-        order
+        self.members.len()
     }
 
     /// The canonical generators of a subgroup of this shape's group: its members in order, each one that isn't in the subgroup of those taken before.
@@ -133,32 +123,36 @@ impl Subgroup {
         self.has(shape.sub(a, b))
     }
 
-    // The subgroup with one more generator: all sums of a multiple of it and a member.
+    // The subgroup with one more generator: the cosets by its multiples, up to the first multiple that is in already.
     fn extended(&self, shape: &Shape, generator: Elem) -> Subgroup
-        requires { generator < order_of shape.now }
+        requires subgroup { IsSubgroup shape.now self.now }
+        requires generator { generator < order_of shape.now }
         ensures { (gs : List ℕ) → self.now ≡ generated shape.now gs → result ≡ generated shape.now (generator ∷ gs) }
     {
-        let mut extended = Subgroup::empty();
-        for c in 0..shape.exponent() {
-            extended.put_coset(shape, self, shape.times(u32::from(c), generator));
+        let mut extended = *self;
+        for c in 1..shape.exponent() {
+            let multiple = shape.times(u32::from(c), generator);
+            if self.has(multiple) {
+                return extended;
+            }
+            extended.put_coset(shape, self, multiple);
         }
         extended
     }
 
     // Puts in each sum of `shift` and a member of the subgroup.
     fn put_coset(&mut self, shape: &Shape, subgroup: &Subgroup, shift: Elem)
+        requires shape { IsShape shape.now }
         requires kept { IsKept self.old }
+        requires subgroup { IsSubgroup shape.now subgroup.now }
         requires shift { shift < order_of shape.now }
         ensures kept { IsKept self.new }
         ensures members { (x : ℕ) → has_member self.new x
             ≡ (has_member self.old x || any_below (λ s. has_member subgroup.now s && (group_of shape.now).plus shift s == x) (order_of shape.now)) }
     {
-        for number in 0..shape.order() {
-            let s = Elem(number);
-            if !subgroup.has(s) {
-                continue;
-            }
-            self.put(shape.add(shift, s));
+        let mut rest = subgroup.members;
+        while let Some(s) = rest.pop_first() {
+            self.put(shape.add(shift, Elem(s)));
         }
     }
 
@@ -166,7 +160,9 @@ impl Subgroup {
         ensures none { result ≡ [] }
         ensures kept { IsKept result }
     {
-        Subgroup { bits: 0 }
+        Subgroup {
+            members: NumberSet::empty(),
+        }
     }
 
     fn put(&mut self, e: Elem)
@@ -174,7 +170,7 @@ impl Subgroup {
         ensures member { self.new ≡ with_member e self.old }
         ensures kept { IsKept self.new }
     {
-        self.bits |= 1 << e.0;
+        self.members.insert(e.0);
     }
 }
 
@@ -184,17 +180,10 @@ impl PartialEq for Subgroup {
     ghost laws = { Prim.search (comparing, rules, lists_per) };
 
     fn eq(&self, other: &Self) -> bool {
-        self.bits == other.bits
+        self.members == other.members
     }
 }
 
 impl Eq for Subgroup {
     ghost laws = { Prim.search (comparing, rules, lists_equiv) };
-}
-
-fn is_kept(bits: u128, e: u8) -> bool
-    requires { e < 128 }
-    ensures { result ≡ is_set bits e }
-{
-    (bits >> e) & 1 == 1
 }

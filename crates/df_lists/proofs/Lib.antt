@@ -1,7 +1,11 @@
+pub mod BitLaws
 pub mod CountLaws
 pub mod LeastLaws
 pub mod ListTotals
 pub mod MemberLaws
 pub mod OntoMaps
+pub mod RangeLaws
+pub mod RisingLists
+pub mod SetLaws
 pub mod TestLaws
 pub mod TotalLaws

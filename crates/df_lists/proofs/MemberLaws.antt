@@ -1,8 +1,8 @@
 -- Members of lists that are made from lists.
-use Rattle.std.proofs.Common.{◌≡◌, ℕ, suc, zero, ◌+◌, ◌<◌, ◌≤◌, Bool, true, false, cond, ◌++◌, map, List, [], ◌∷◌, length, filter, refl, sym, ap, ◌∙◌, inl, inr, ◌⊎◌, arith, ⊎_elim, length-append}
+use Rattle.std.proofs.Common.{◌≡◌, ℕ, suc, zero, ◌+◌, ◌<◌, ◌≤◌, Bool, true, false, cond, ◌++◌, map, List, [], ◌∷◌, length, filter, refl, sym, ap, ◌∙◌, inl, inr, ◌⊎◌, arith, ⊎_elim, subst, length-append}
 use Rattle.std.proofs.lemmas.Bool.{cases_eq}
 use Rattle.std.proofs.lemmas.List.Elements.{filter-append}
-use Rattle.std.specs.List.{range_with_len}
+use Rattle.std.specs.List.{flat_map, range_with_len}
 use Rattle.df_lists.specs.Membership.{In, count}
 
 pub In-append_cases : {X : Type 0} (xs ys : List X) (x : X) → In (xs ++ ys) x → In xs x ⊎ In ys x
@@ -28,6 +28,15 @@ pub In-map : {X Y : Type 0} (f : X → Y) (xs : List X) (x : X) → In xs x → 
 In-map f [] x i = absurd i
 In-map f (y ∷ xs) x (inl e) = inl (ap f e)
 In-map f (y ∷ xs) x (inr i) = inr (In-map f xs x i)
+
+pub In-flat_map : {X Y : Type 0} (f : X → List Y) (xs : List X) (x : X) (y : Y) → In xs x → In (f x) y → In (flat_map f xs) y
+In-flat_map f [] x y i j = absurd i
+In-flat_map f (z ∷ xs) x y (inl e) j = In-append_left (f z) (flat_map f xs) y (subst (λ w. In (f w) y) (sym e) j)
+In-flat_map f (z ∷ xs) x y (inr i) j = In-append_right (f z) (flat_map f xs) y (In-flat_map f xs x y i j)
+
+pub In-flat_map_gives : {X Y : Type 0} (f : X → List Y) (xs : List X) (y : Y) → In (flat_map f xs) y → (x : X) × In xs x × In (f x) y
+In-flat_map_gives f [] y i = absurd i
+In-flat_map_gives f (x ∷ xs) y i = ⊎_elim (λ j. (x, inl refl, j)) (λ j. let r = In-flat_map_gives f xs y j in (r.0, inr r.1, r.2)) (In-append_cases (f x) (flat_map f xs) y i)
 
 pub In-filter : {X : Type 0} (t : X → Bool) (xs : List X) (x : X) → In xs x → t x ≡ true → In (filter t xs) x
 In-filter t [] x i h = absurd i

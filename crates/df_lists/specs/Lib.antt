@@ -1,4 +1,4 @@
-pub mod BitLaws
+pub mod Bits
 pub mod LeastMembers
 pub mod Membership
 pub mod NumberSets

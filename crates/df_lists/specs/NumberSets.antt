@@ -1,7 +1,6 @@
 -- Sets of numbers, written as increasing lists.
-use Rattle.std.specs.Prelude.{◌≡◌, ◌==◌, ℕ, ◌^◌, Bool, List, [], ◌∷◌, filter, sum_by, nat_lt, if◌then◌else◌}
+use Rattle.std.specs.Prelude.{◌≡◌, ◌==◌, ◌≤◌, ◌<◌, ◌+◌, ℕ, Bool, List, [], ◌∷◌, filter, nat_lt, if◌then◌else◌}
 use Rattle.std.specs.List.{range_with_len, list_any}
-use Rattle.std.specs.Int.{bit_at}
 
 -- whether a number is a member
 abbrev pub has_member : List ℕ → ℕ → Bool
@@ -20,14 +19,7 @@ abbrev pub with_member : ℕ → List ℕ → List ℕ
 with_member p [] = p ∷ []
 with_member p (q ∷ qs) = if nat_lt p q then p ∷ q ∷ qs else (if p == q then q ∷ qs else q ∷ with_member p qs)
 
--- whether the bit of a number is set
-abbrev pub is_set : ℕ → ℕ → Bool
-is_set bits i = bit_at bits i == 1
-
--- the set that 128 bits keep: the places of the bits that are set
-unfoldable pub members : ℕ → List ℕ
-members bits = filter (is_set bits) (range_with_len 0 128)
-
--- the bits that keep a set
-abbrev pub weight : List ℕ → ℕ
-weight set = sum_by (λ i. 2 ^ i) set
+-- the list rises strictly, from `low` on and below v
+abbrev pub Rises : ℕ → ℕ → List ℕ → Type 0
+Rises low v [] = Unit {0}
+Rises low v (p ∷ b) = (low ≤ p) × (p < v) × Rises (p + 1) v b

@@ -1,7 +1,7 @@
 -- What a loop over numbers picks, one number more.
 use Rattle.std.proofs.Common.{◌≡◌, ℕ, ◌+◌, ◌≤◌, Bool, true, false, cond, ◌++◌, List, [], ◌∷◌, filter, length, sym, ap, ◌∙◌, append-nil, arith, length-append}
 use Rattle.std.specs.List.{range_with_len}
-use Rattle.df_lists.specs.BitLaws.{filter_more}
+use Rattle.df_lists.proofs.RangeLaws.{filter_more}
 
 pub picked : (t : ℕ → Bool) (n : ℕ) (old new : List ℕ) → t n ≡ true → old ≡ filter t (range_with_len 0 n) → new ≡ old ++ n ∷ [] → new ≡ filter t (range_with_len 0 (n + 1))
 picked t n old new e is put = put ∙ ap (λ l. l ++ n ∷ []) is ∙ sym (filter_more t n ∙ ap (λ b. filter t (range_with_len 0 n) ++ cond b (n ∷ []) []) e)

@@ -4,7 +4,7 @@ use Rattle.std.proofs.lemmas.Bool.{false_from_ne_true, both_ways}
 use Rattle.std.proofs.lemmas.List.{map-append}
 use Rattle.std.specs.List.{list_all, range_with_len}
 use Rattle.df_lists.specs.Membership.{count}
-use Rattle.df_lists.specs.BitLaws.{range_more}
+use Rattle.df_lists.proofs.RangeLaws.{range_more}
 use Rattle.df_lists.proofs.MemberLaws.{count-append}
 use Rattle.df_acting.specs.Earliest.{earliest}
 use Rattle.df_lists.proofs.TestLaws.{all_gives}

@@ -10,7 +10,7 @@ use Rattle.std.proofs.lemmas.Option.{slice_get-map, slice_get-get_or, slice_get_
 use Rattle.std.proofs.lemmas.Bool.{cases_lt}
 use Rattle.std.proofs.lemmas.Map.Keys.{below_from_sorted, sorted_from_strictly_increasing}
 use Rattle.df_lists.specs.Membership.{In}
-use Rattle.df_lists.specs.BitLaws.{filter_more}
+use Rattle.df_lists.proofs.RangeLaws.{filter_more}
 use Rattle.df_lists.specs.NumberSets.{IsSet, has_member}
 use Rattle.df_lists.proofs.MemberLaws.{In-filter, In-filter_gives, In-range, In-range_gives}
 use Rattle.df_lists.proofs.TestLaws.{filter_agree}

@@ -5,6 +5,8 @@ use Rattle.df_lang.specs.Problems.{Stated, point_count}
 use Rattle.df_kramer_mesner.specs.OrbitSystems.{columns_of, targets_of}
 use Rattle.df_matrix.specs.declared.matrix.MatrixError.{MatrixError}
 use Rattle.df_matrix.specs.declared.matrix.MatrixError.TheVariants.{TooManySubsets, TooManyColumns, TooLarge, OutOfMemory, TooManySummed}
+use Rattle.df_matrix.specs.declared.matrix.TheConstants.{MOST_COLUMNS, MOST_ENTRIES}
+use Rattle.df_orbits.specs.declared.orbits.TheConstants.{MOST_SUBSETS, MOST_SUMMED}
 use Rattle.df_orbits.specs.declared.orbits.OrbitError.{OrbitError}
 use Rattle.df_orbits.specs.declared.orbits.OrbitError.TheVariants as orbits
 
@@ -16,12 +18,12 @@ block_count s = sum_by (binomial (point_count s)) s.sizes
 abbrev pub only_size : Stated → ℕ
 only_size s = slice_index s.sizes 0
 
--- too many blocks: above 2,000,000 in version 1, which has one size, and above 8,000,000 in version 2
+-- too many blocks: above MOST_SUBSETS in version 1, which has one size, and above MOST_SUMMED in version 2
 abbrev pub subset_limit : Stated → Option MatrixError
 subset_limit s =
     if s.version == 1
-    then (if nat_lt 2000000 (block_count s) then Some (TooManySubsets (point_count s) (only_size s)) else None)
-    else (if nat_lt 8000000 (block_count s) then Some (TooManySummed (point_count s) (block_count s)) else None)
+    then (if nat_lt MOST_SUBSETS (block_count s) then Some (TooManySubsets (point_count s) (only_size s)) else None)
+    else (if nat_lt MOST_SUMMED (block_count s) then Some (TooManySummed (point_count s) (block_count s)) else None)
 
 -- the same limit of the orbits
 abbrev pub passed_by : OrbitError → MatrixError
@@ -29,18 +31,18 @@ passed_by (orbits.TooManySubsets points size) = TooManySubsets points size
 passed_by (orbits.TooManySummed points sum) = TooManySummed points sum
 passed_by orbits.OutOfMemory = OutOfMemory
 
--- more than 65,536 columns
+-- more columns than MOST_COLUMNS
 abbrev pub column_limit_of : ℕ → Option MatrixError
-column_limit_of columns = if nat_lt 65536 columns then Some (TooManyColumns columns) else None
+column_limit_of columns = if nat_lt MOST_COLUMNS columns then Some (TooManyColumns columns) else None
 
 abbrev pub column_limit : Stated → Option MatrixError
 column_limit s = column_limit_of (length (columns_of s))
 
--- in version 1, more than 16,777,216 rows times columns
+-- in version 1, rows times columns above MOST_ENTRIES
 abbrev pub entry_limit_of : ℕ → ℕ → ℕ → Option MatrixError
 entry_limit_of version rows columns =
     if version == 1
-    then (if nat_lt 16777216 (rows * columns) then Some (TooLarge rows columns) else None)
+    then (if nat_lt MOST_ENTRIES (rows * columns) then Some (TooLarge rows columns) else None)
     else None
 
 abbrev pub entry_limit : Stated → Option MatrixError

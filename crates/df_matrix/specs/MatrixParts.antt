@@ -5,7 +5,9 @@ use Rattle.df_lists.specs.Membership.{count}
 use Rattle.df_lang.specs.Problems.{Stated, IsStated}
 use Rattle.df_maps.specs.FullMaps.{MapGroup}
 use Rattle.df_maps.specs.Laws.{AreGroup}
+use Rattle.df_orbits.specs.declared.orbits.TheConstants.{MOST_SUMMED}
 use Rattle.df_orbits.specs.OrbitClasses.{pair_classes, block_classes}
+use Rattle.df_matrix.specs.declared.matrix.TheConstants.{MOST_COLUMNS}
 use Rattle.df_walk.specs.declared.Cell.{Cell}
 use Rattle.df_walk.specs.Systems.{System}
 use Rattle.df_system.specs.Storage.{positive_cells, AreStarts, columns_of}
@@ -19,7 +21,7 @@ pub record AreClasses (s : Stated) (maps : MapGroup) (pairs : List (List ℕ × 
   pub orbits_are : orbits ≡ block_classes (maps_of_problem s) s.sizes
   pub stated : IsStated s
   pub group : AreGroup (maps_of_problem s)
-  pub few : length (all_blocks s) ≤ 8000000
+  pub few : length (all_blocks s) ≤ MOST_SUMMED
 
 -- the pairs of listed points whose first one is among the first k
 abbrev pub pairs_before : ℕ → List ℕ → List (List ℕ)
@@ -69,5 +71,5 @@ kept_places s = places_where (is_kept s) (orbits_of s)
 pub record AreColumns (s : Stated) (needed kept : List ℕ) (system : System) : Type 0 where
   pub needed_are : needed ≡ needed_places s
   pub kept_are : kept ≡ kept_places s
-  pub few : length kept ≤ 65536
+  pub few : length kept ≤ MOST_COLUMNS
   pub system_is : system ≡ orbit_system s

@@ -11,6 +11,7 @@ use crate::classes::Classes;
 use crate::rows::sorted_rows;
 use arrayvec::ArrayVec;
 use df_kramer_mesner::{cells_are_told_by_entries, entries_are_quotients};
+use df_orbits::MOST_SUMMED;
 use df_system::Cell;
 
 /// The positive entries of an orbit in the rows of pairs.
@@ -56,7 +57,7 @@ fn tally(rows: &[u32]) -> Cells
 // each of a row's pairs lies in the same number of blocks.
 fn quotients(classes: &Classes, size: u32, tally: &[Cell]) -> Cells
     requires orbits { 0 < length (orbits_of classes.now) }
-    requires size { size ≤ 8000000 }
+    requires size { size ≤ MOST_SUMMED }
     requires few { length tally.now ≤ 120 }
     requires rows { All (λ cell. cell.row < length (pairs_of classes.now)) tally.now }
     requires small { All (λ cell. cell.value ≤ 120) tally.now }

@@ -14,7 +14,9 @@ use crate::matrix::MatrixError;
 use df_kramer_mesner::{entries_are_quotients, numbers_are_few};
 use df_lang::Problem;
 use df_maps::{Maps, maps_are_groups, maps_are_made};
-use df_orbits::{OrbitError, Orbits, PairNumbers, pair_orbits, sized_orbits, subset_orbits};
+use df_orbits::{
+    MOST_SUMMED, OrbitError, Orbits, PairNumbers, pair_orbits, sized_orbits, subset_orbits,
+};
 use df_subsets::{Block, Point, blocks_are_sets};
 use std::alloc::Global;
 use std::marker::Model;
@@ -90,7 +92,7 @@ fn first_blocks(alloc: Global, problem: &Problem, maps: &Maps) -> Result<Orbits,
     requires stated { IsStated problem.now }
     ensures value { IfOk result (λ orbits. orbits ≡ block_classes (maps_of_problem problem.now) problem.now.sizes) }
     ensures within { IsOk result → subset_limit problem.now ≡ None }
-    ensures few { IsOk result → block_count problem.now ≤ 8000000 }
+    ensures few { IsOk result → block_count problem.now ≤ MOST_SUMMED }
     ensures refused { IfErr result (λ e. (subset_limit problem.now ≡ Some e) ⊎ (e ≡ OutOfMemoryError)) }
 {
     match subset_orbits(alloc, maps, first_size(problem)) {
@@ -105,7 +107,7 @@ fn summed_blocks(alloc: Global, problem: &Problem, maps: &Maps) -> Result<Orbits
     requires version { problem.now.version ≡ 2 }
     ensures value { IfOk result (λ orbits. orbits ≡ block_classes (maps_of_problem problem.now) problem.now.sizes) }
     ensures within { IsOk result → subset_limit problem.now ≡ None }
-    ensures few { IsOk result → block_count problem.now ≤ 8000000 }
+    ensures few { IsOk result → block_count problem.now ≤ MOST_SUMMED }
     ensures refused { IfErr result (λ e. (subset_limit problem.now ≡ Some e) ⊎ (e ≡ OutOfMemoryError)) }
 {
     match sized_orbits(alloc, maps, all_sizes(problem)) {
@@ -120,7 +122,7 @@ fn blocks_of(alloc: Global, problem: &Problem, maps: &Maps) -> Result<Orbits, Ma
     requires stated { IsStated problem.now }
     ensures value { IfOk result (λ orbits. orbits ≡ block_classes (maps_of_problem problem.now) problem.now.sizes) }
     ensures within { IsOk result → subset_limit problem.now ≡ None }
-    ensures few { IsOk result → block_count problem.now ≤ 8000000 }
+    ensures few { IsOk result → block_count problem.now ≤ MOST_SUMMED }
     ensures refused { IfErr result (λ e. (subset_limit problem.now ≡ Some e) ⊎ (e ≡ OutOfMemoryError)) }
 {
     if problem.version == 1 {
@@ -205,7 +207,7 @@ impl Classes {
     /// How many orbits there are.
     pub fn orbit_count(&self) -> usize
         ensures count { result ≡ length (orbits_of self.now) }
-        ensures few { result ≤ 8000000 }
+        ensures few { result ≤ MOST_SUMMED }
     {
         self.orbits.len()
     }
@@ -229,7 +231,7 @@ impl Classes {
         requires { orbit < length (orbits_of self.now) }
         ensures size { (b : List ℕ) → slice_get (orbits_of self.now) orbit ≡ Some b → result ≡ orbit_size self.now b }
         ensures some { 0 < result }
-        ensures few { result ≤ 8000000 }
+        ensures few { result ≤ MOST_SUMMED }
     {
         numbers_are_few();
         self.orbits.size(orbit)

@@ -10,8 +10,10 @@ ghost use Rattle.df_matrix.specs.MatrixParts.{orbit_at, all_cells, needed_places
 use crate::OutOfMemory;
 use crate::cells::{fit, pair_cells};
 use crate::classes::Classes;
+use crate::matrix::MOST_COLUMNS;
 use df_kramer_mesner::{columns_are_sparse, orbit_systems_are_systems, rows_are_pairs_and_needed};
 use df_lang::target;
+use df_orbits::MOST_SUMMED;
 use df_subsets::{Block, blocks_are_ordered, candidates_are_all};
 use df_system::{Cell, System, SystemError};
 use std::alloc::{AllocError, Global};
@@ -37,7 +39,7 @@ pub fn marked(alloc: Global, classes: &Classes, blocks: &[Block]) -> Result<Vec<
 
 /// The places of the marks.
 pub fn numbers_of(alloc: Global, marks: &[bool]) -> Result<Vec<u32>, OutOfMemory>
-    requires { length marks.now ≤ 8000000 }
+    requires { length marks.now ≤ MOST_SUMMED }
     ensures { IfOk result (λ numbers. numbers.items ≡ filter (λ i. slice_index_or marks.now i false) (range_with_len 0 (length marks.now))) }
 {
     let mut numbers = Vec::new(alloc);
@@ -113,7 +115,7 @@ pub fn kept_of(
 /// The place of a number in an increasing list.
 pub fn place_in(numbers: &[u32], number: u32) -> Option<u32>
     requires increasing { IsStrictlyIncreasing numbers.now }
-    requires few { length numbers.now ≤ 8000000 }
+    requires few { length numbers.now ≤ MOST_SUMMED }
     ensures some { IfSome result (λ place. slice_get numbers.now place ≡ Some number) }
     ensures none { IsNone result → In numbers.now number → ⊥ }
 {
@@ -169,7 +171,7 @@ fn stored_columns(
 ) -> Result<Stored, OutOfMemory>
     requires needed { needed.now ≡ needed_places classes.now }
     requires orbits { All (λ orbit. orbit < length (orbits_of classes.now)) orbits.now }
-    requires few { length orbits.now ≤ 65536 }
+    requires few { length orbits.now ≤ MOST_COLUMNS }
     ensures { IfOk result (λ columns. AreStored (λ orbit. all_cells classes.now (orbit_at classes.now orbit)) orbits.now columns.starts.items columns.cells.items) }
 {
     let mut starts = Vec::with_capacity(alloc, orbits.len() + 1)?;
@@ -194,7 +196,7 @@ pub fn system_of(
     requires targets { targets.items ≡ all_targets classes.now }
     requires needed { needed.now ≡ needed_places classes.now }
     requires kept { kept.now ≡ kept_places classes.now }
-    requires few { length kept.now ≤ 65536 }
+    requires few { length kept.now ≤ MOST_COLUMNS }
     ensures { IfOk result (λ system. system ≡ orbit_system classes.now) }
 {
     let Stored { starts, cells } = stored_columns(alloc, classes, needed, kept)?;

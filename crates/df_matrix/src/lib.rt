@@ -8,12 +8,14 @@ mod classes;
 mod columns;
 #[cfg(test)]
 mod comparisons;
+mod designs;
 mod matrix;
 mod rows;
 #[cfg(test)]
 mod tests;
 
-pub use matrix::{MatrixError, OrbitMatrix, build};
+pub use designs::matrix_tells_designs;
+pub use matrix::{MOST_COLUMNS, MOST_ENTRIES, MatrixError, OrbitMatrix, build};
 
 /// Want of memory.
 pub type OutOfMemory = std::alloc::AllocError;

@@ -12,23 +12,30 @@ use crate::classes::Classes;
 use crate::columns::{kept_of, marked, numbers_of, place_in, system_of, targets_of as targets};
 use df_kramer_mesner::{columns_are_sparse, rows_are_pairs_and_needed};
 use df_lang::Problem;
+use df_orbits::MOST_SUMMED;
 use df_subsets::{Block, Point, blocks_are_ordered, candidates_are_all};
 use df_system::System;
 use std::alloc::{AllocError, Global};
 use std::marker::Model;
 
+/// The most columns of an orbit matrix.
+pub const MOST_COLUMNS: u64 = 65_536;
+
+/// The most rows times columns of an orbit matrix of version 1.
+pub const MOST_ENTRIES: u64 = 16_777_216;
+
 /// Why there is no orbit matrix. The limits are judged in the order of the first three; `TooManySummed` stands in the place of `TooManySubsets` for a source of version 2.
 #[derive(Clone, Copy, Debug, PartialEq, Eq)]
 pub enum MatrixError {
-    /// Version 1: there are more than 2,000,000 blocks of the size.
+    /// Version 1: there are more than `MOST_SUBSETS` blocks of the size.
     TooManySubsets { points: u8, size: u8 },
-    /// More than 65,536 orbits are kept.
+    /// More than `MOST_COLUMNS` orbits are kept.
     TooManyColumns { found: u64 },
-    /// Version 1: there are more than 16,777,216 rows times columns.
+    /// Version 1: there are more than `MOST_ENTRIES` rows times columns.
     TooLarge { rows: u64, columns: u64 },
     /// Memory was wanting.
     OutOfMemory,
-    /// Version 2: there are more than 8,000,000 blocks of the sizes together.
+    /// Version 2: there are more than `MOST_SUMMED` blocks of the sizes together.
     TooManySummed { points: u8, sum: u128 },
 }
 
@@ -271,17 +278,17 @@ fn parts_of(alloc: Global, classes: &Classes) -> Result<Parts, MatrixError>
 // The limits on columns and on entries.
 fn judge(version: u8, rows: usize, columns: usize) -> Result<(), MatrixError>
     requires rows { rows ≤ 12224 }
-    requires columns { columns ≤ 8000000 }
+    requires columns { columns ≤ MOST_SUMMED }
     ensures within { IsOk result → or_else (column_limit_of columns) (entry_limit_of version rows columns) ≡ None }
-    ensures few { IsOk result → columns ≤ 65536 }
+    ensures few { IsOk result → columns ≤ MOST_COLUMNS }
     ensures refused { IfErr result (λ e. or_else (column_limit_of columns) (entry_limit_of version rows columns) ≡ Some e) }
 {
     let rows = rows as u64;
     let columns = columns as u64;
-    if columns > 65_536 {
+    if columns > MOST_COLUMNS {
         return Err(MatrixError::TooManyColumns { found: columns });
     }
-    if version == 1 && rows * columns > 16_777_216 {
+    if version == 1 && rows * columns > MOST_ENTRIES {
         return Err(MatrixError::TooLarge { rows, columns });
     }
     Ok(())

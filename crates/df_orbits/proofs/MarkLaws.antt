@@ -6,7 +6,7 @@ use Rattle.std.proofs.lemmas.Nat.Bits.{bit_at_set_same, bit_at_set_other}
 use Rattle.std.proofs.lemmas.List.Folds.{list_any-append}
 use Rattle.std.specs.List.{list_any, range_with_len}
 use Rattle.std.specs.Int.{bit_at, w64}
-use Rattle.df_lists.specs.BitLaws.{range_more}
+use Rattle.df_lists.proofs.RangeLaws.{range_more}
 use Rattle.df_orbits.specs.MarkedPlaces.{is_marked}
 
 or_none : (b : Bool) → b ≡ (b || false)

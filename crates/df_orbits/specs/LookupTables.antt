@@ -3,6 +3,7 @@ use Rattle.std.specs.Prelude.{◌≡◌, ◌<◌, ◌≤◌, ◌+◌, ◌-◌, �
 use Rattle.df_subsets.specs.Subsets.{binomial}
 use Rattle.df_maps.specs.FullMaps.{MapGroup, full_maps, map_number, carried, point_count}
 use Rattle.df_maps.specs.Laws.{AreGroup}
+use Rattle.df_orbits.specs.declared.orbits.TheConstants.{MOST_SUMMED}
 use Rattle.df_orbits.specs.OrbitClasses.{are_alike, earliest_alike, pair_classes, first_members}
 
 -- the image of point p under map number i stands at place i * points + p
@@ -23,7 +24,7 @@ pub record AreLater (points size all : ℕ) (table : List ℕ) : Type 0 where
   pub some : 1 ≤ size
   pub within : size ≤ points
   pub all_is : all ≡ binomial points size
-  pub few : all ≤ 8000000
+  pub few : all ≤ MOST_SUMMED
   pub long : length table ≡ (size + 1) * points
   pub later : (j p : ℕ) → j ≤ size → p < points → j ≤ p + 1 → slice_index table (j * points + p) ≡ binomial (points - 1 - p) (size - j)
 

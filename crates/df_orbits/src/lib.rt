@@ -14,7 +14,9 @@ mod places;
 mod tests;
 
 pub use numbers::PairNumbers;
-pub use orbits::{OrbitError, Orbits, pair_orbits, sized_orbits, subset_orbits};
+pub use orbits::{
+    MOST_SUBSETS, MOST_SUMMED, OrbitError, Orbits, pair_orbits, sized_orbits, subset_orbits,
+};
 
 /// Want of memory.
 pub type OutOfMemory = std::alloc::AllocError;

@@ -3,6 +3,7 @@ ghost use Rattle.std.specs.Prelude.{◌≡◌, ◌==◌, ◌||◌, ◌*◌, ◌<
 ghost use Rattle.df_orbits.specs.MarkedPlaces.{is_marked};
 
 use crate::OutOfMemory;
+use crate::orbits::MOST_SUMMED;
 use std::alloc::Global;
 use std::marker::Model;
 
@@ -20,9 +21,9 @@ impl Model for Marks {
 }
 
 impl Marks {
-    /// No mark at any of the places below `count`, which is at most 8,000,000.
+    /// No mark at any of the places below `count`, which is at most `MOST_SUMMED`.
     pub fn none(alloc: Global, count: usize) -> Result<Marks, OutOfMemory>
-        requires { count ≤ 8000000 }
+        requires { count ≤ MOST_SUMMED }
         ensures room { IfOk result (λ marks. count ≤ 64 * length marks) }
         ensures none { IfOk result (λ marks. (place : ℕ) → is_marked marks place ≡ false) }
     {

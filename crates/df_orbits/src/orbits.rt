@@ -18,6 +18,12 @@ use df_subsets::{Block, binomial, first, next};
 use std::alloc::{AllocError, Global};
 use std::marker::Model;
 
+/// The most blocks of one size whose orbits are listed.
+pub const MOST_SUBSETS: u128 = 2_000_000;
+
+/// The most blocks of several sizes, counted together, whose orbits are listed.
+pub const MOST_SUMMED: u128 = 8_000_000;
+
 #[derive(Clone, Copy, PartialEq, Eq, PartialOrd, Ord)]
 struct Orbit {
     block: Block,
@@ -33,11 +39,11 @@ pub struct Orbits {
 /// Why the classes of blocks weren't listed.
 #[derive(Clone, Copy, Debug, PartialEq, Eq)]
 pub enum OrbitError {
-    /// There are more than 2,000,000 blocks of one size.
+    /// There are more than `MOST_SUBSETS` blocks of one size.
     TooManySubsets { points: u8, size: u8 },
     /// Memory was wanting.
     OutOfMemory,
-    /// There are more than 8,000,000 blocks of the sizes together.
+    /// There are more than `MOST_SUMMED` blocks of the sizes together.
     TooManySummed { points: u8, sum: u128 },
 }
 
@@ -117,17 +123,17 @@ pub fn pair_orbits(alloc: Global, maps: &Maps) -> Result<Orbits, OutOfMemory>
 }
 
 /// The classes of the blocks of `size` points, from 2 to the number of points.
-/// `TooManySubsets` exactly where there are more than 2,000,000 such blocks.
+/// `TooManySubsets` exactly where there are more than `MOST_SUBSETS` such blocks.
 pub fn subset_orbits(alloc: Global, maps: &Maps, size: u8) -> Result<Orbits, OrbitError>
     requires some { 2 ≤ size }
     requires within { size ≤ point_count maps.now }
     ensures blocks { IfOk result (λ orbits. orbits ≡ classes_of maps.now (subsets (point_count maps.now) size)) }
     ensures sized { IfOk result (λ orbits. orbits ≡ block_classes maps.now (size ∷ [])) }
-    ensures many { 2000000 < binomial_of (point_count maps.now) size → result ≡ Err (TooManySubsets (point_count maps.now) size) }
-    ensures few { binomial_of (point_count maps.now) size ≤ 2000000 → IfErr result (λ e. e ≡ OutOfMemoryError) }
+    ensures many { MOST_SUBSETS < binomial_of (point_count maps.now) size → result ≡ Err (TooManySubsets (point_count maps.now) size) }
+    ensures few { binomial_of (point_count maps.now) size ≤ MOST_SUBSETS → IfErr result (λ e. e ≡ OutOfMemoryError) }
 {
     let points = maps.points();
-    if binomial(points, size) > 2_000_000 {
+    if binomial(points, size) > MOST_SUBSETS {
         return Err(OrbitError::TooManySubsets { points, size });
     }
     let images = Images::new(alloc, maps)?;
@@ -137,18 +143,18 @@ pub fn subset_orbits(alloc: Global, maps: &Maps, size: u8) -> Result<Orbits, Orb
 }
 
 /// The classes of all blocks that have one of the sizes, numbered together. The sizes increase strictly from 2 to the number of points, and there is one.
-/// `TooManySummed` exactly where there are more than 8,000,000 such blocks.
+/// `TooManySummed` exactly where there are more than `MOST_SUMMED` such blocks.
 pub fn sized_orbits(alloc: Global, maps: &Maps, sizes: &[u8]) -> Result<Orbits, OrbitError>
     requires some { 0 < length sizes.now }
     requires rising { IsStrictlyIncreasing sizes.now }
     requires range { All (λ k. (2 ≤ k) × (k ≤ point_count maps.now)) sizes.now }
     ensures sized { IfOk result (λ orbits. orbits ≡ block_classes maps.now sizes.now) }
-    ensures many { 8000000 < sum_by (binomial_of (point_count maps.now)) sizes.now → result ≡ Err (TooManySummed (point_count maps.now) (sum_by (binomial_of (point_count maps.now)) sizes.now)) }
-    ensures few { sum_by (binomial_of (point_count maps.now)) sizes.now ≤ 8000000 → IfErr result (λ e. e ≡ OutOfMemoryError) }
+    ensures many { MOST_SUMMED < sum_by (binomial_of (point_count maps.now)) sizes.now → result ≡ Err (TooManySummed (point_count maps.now) (sum_by (binomial_of (point_count maps.now)) sizes.now)) }
+    ensures few { sum_by (binomial_of (point_count maps.now)) sizes.now ≤ MOST_SUMMED → IfErr result (λ e. e ≡ OutOfMemoryError) }
 {
     let points = maps.points();
     let sum = summed(points, sizes);
-    if sum > 8_000_000 {
+    if sum > MOST_SUMMED {
         return Err(OrbitError::TooManySummed { points, sum });
     }
     let images = Images::new(alloc, maps)?;
@@ -178,7 +184,7 @@ fn summed(points: u8, sizes: &[u8]) -> u128
 fn find(alloc: Global, images: &Images, size: u8, found: &mut Vec<Orbit>) -> Result<(), OutOfMemory>
     requires some { 1 ≤ size }
     requires within { size ≤ point_count images.now }
-    requires few { binomial_of (point_count images.now) size ≤ 8000000 }
+    requires few { binomial_of (point_count images.now) size ≤ MOST_SUMMED }
     ensures { IfOk result (λ _. map (λ f. (f.block, f.size)) found.new.items ≡ map (λ f. (f.block, f.size)) found.old.items ++ classes_of images.now (subsets (point_count images.now) size)) }
 {
     let points = images.points();

@@ -4,6 +4,7 @@ ghost use Rattle.df_subsets.specs.Blocks.{IsBlock};
 ghost use Rattle.df_subsets.specs.Subsets.{subsets, binomial as binomial_of, rank as rank_of};
 
 use crate::OutOfMemory;
+use crate::orbits::MOST_SUMMED;
 use df_subsets::{Block, binomial};
 use std::alloc::Global;
 use std::marker::Model;
@@ -30,12 +31,12 @@ impl Model for Places {
 }
 
 impl Places {
-    /// There are at most 8,000,000 of these blocks.
+    /// There are at most `MOST_SUMMED` of these blocks.
     pub fn new(alloc: Global, points: u8, size: u8) -> Result<Places, OutOfMemory>
         requires small { points ≤ 128 }
         requires some { 1 ≤ size }
         requires within { size ≤ points }
-        requires few { binomial_of points size ≤ 8000000 }
+        requires few { binomial_of points size ≤ MOST_SUMMED }
         ensures { IfOk result (λ places. places ≡ (points, size)) }
     {
         let width = usize::from(points);
@@ -55,7 +56,7 @@ impl Places {
     /// How many blocks there are.
     pub fn count(&self) -> usize
         ensures count { result ≡ binomial_of self.now.0 self.now.1 }
-        ensures few { result ≤ 8000000 }
+        ensures few { result ≤ MOST_SUMMED }
     {
         self.all as usize
     }
@@ -87,7 +88,7 @@ fn after(points: u8, size: u8, taken: u8, p: u8) -> u32
     requires within { size ≤ points }
     requires taken { taken ≤ size }
     requires point { p < points }
-    requires few { binomial_of points size ≤ 8000000 }
+    requires few { binomial_of points size ≤ MOST_SUMMED }
     ensures { taken ≤ p + 1 → result ≡ binomial_of (points - 1 - p) (size - taken) }
 {
     if taken > p + 1 || size - taken > points - 1 - p {

@@ -4,8 +4,7 @@ use Rattle.std.specs.Prelude.{pos, ◌-ℤ◌, find, ◌*◌, ◌/◌, ◌%◌, 
 use Rattle.std.specs.List.{range_with_len}
 use Rattle.std.proofs.lemmas.Bool.{cases_eq, cases_Bool, lt-ltb, le-ltb, eq-eqb, ne_eqb, and_from, and_right, and_left}
 use Rattle.std.proofs.Math.Nat.{mod-add-div, add-mul-mod_self_left, mul-mod_right}
-use Rattle.df_walk.specs.declared.Cell.{Cell}
-use Rattle.df_walk.specs.Systems.{System, entries, target, cells, widest}
+use Rattle.df_walk.specs.Systems.{System, entries, target}
 use Rattle.df_walk.specs.Assignments.{Decisions, common_divisor, taken, divisor, leaves_rest, need, is_settled, has_residue, least_row, least_over, least_under, least_residue}
 use Rattle.df_walk.specs.declared.Rules.{Rules}
 use Rattle.df_walk.specs.declared.Entry.TheVariants as entry
@@ -27,15 +26,6 @@ held_settled {s} {a} {values} {count} h = rw (h.same, h.at.decisions) (padded_se
 
 pub held_need : {s : System} {a : Assigned} {values : List Bool} {count : ℕ} (row : ℕ) → IsHeld s a values count → need a.system a.decisions row ≡ need s (decided (take count values)) row
 held_need {s} {a} {values} {count} row h = rw (h.same, h.at.decisions) (ap (λ n. pos (target s row) -ℤ pos n) (taken-open (entries s row) (take count values) (length s.columns - length (take count values))))
-
--- no column has more cells than the widest
-cells_le : (columns : List (List Cell)) (k : ℕ) → length (get_or columns k []) ≤ widest columns
-cells_le [] k = omega arith
-cells_le (column ∷ columns) zero = omega arith
-cells_le (column ∷ columns) (suc k) = omega (arith, cells_le columns k)
-
-pub cells_le_widest : (s : System) (column : ℕ) → length (cells s column) ≤ widest s.columns
-cells_le_widest s column = cells_le s.columns column
 
 -- where no row is found, none passes
 find_none-at : (p : ℕ → Bool) (a n r : ℕ) → find p (range_with_len a n) ≡ None → a ≤ r → r < a + n → p r ≡ false

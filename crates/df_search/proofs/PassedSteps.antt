@@ -1,10 +1,14 @@
 -- Entries that a search passes.
-use Rattle.std.proofs.Common.{◌≡◌, ℕ, suc, zero, ◌+◌, ◌*◌, ◌≤◌, ◌<◌, Bool, List, [], ◌∷◌, ◌++◌, length, Some, refl, sym, ap, ◌∙◌, arith, length-append}
+use Rattle.std.proofs.Common.{◌≡◌, ℕ, suc, zero, ◌+◌, ◌*◌, ◌≤◌, ◌<◌, Bool, List, [], ◌∷◌, ◌++◌, length, Some, refl, sym, ap, ◌∙◌, subst, arith, length-append}
 use Rattle.std.proofs.lemmas.List.{append_assoc}
 use Rattle.std.proofs.lemmas.List.Elements.{filter_map-append}
 use Rattle.df_walk.specs.declared.Entry.TheVariants as entry
 use Rattle.df_walk.specs.Solutions.{yes_vector}
-use Rattle.df_walk.specs.Walks.{Step, decided, solution_of, solutions_in, node_of, nodes_in}
+use Rattle.df_walk.specs.declared.Entry.{Entry}
+use Rattle.df_walk.specs.Walks.{Step, decided, entry_at, solution_of, solutions_in, node_of, nodes_in}
+use Rattle.df_walk.specs.Paths.{IsNode}
+use Rattle.df_walk.proofs.WalkSteps.{walk_on_first}
+use Rattle.df_walk.proofs.NodeVisits.{node_of_start}
 use Rattle.df_search.specs.declared.Event.{Event}
 use Rattle.df_search.specs.declared.Event.TheVariants.{Solution, Spent, Finished}
 use Rattle.df_search.specs.Searches.{Searching, StandsBefore, solutions_left, nodes_left, AdvancesBy, Advances, Passes, Finds, Stops, Ends, answered, stopped}
@@ -83,12 +87,17 @@ finds_next {q} {budget} mid new b after h a = go mid.left b refl h a
     go ((p, entry.Settled) ∷ more) (suc b) is h a =
         let x = yes_vector (length q.system.columns) (decided p) in
         let left : new.left ≡ more = ap (λ n. n.left) a.1 in
+        let path : new.path ≡ p = ap (λ n. n.path) a.1 in
         let first : mid.left ≡ (p, entry.Settled) ∷ new.left = is ∙ ap (λ l. (p, entry.Settled) ∷ l) (sym left) in
         let e = ap length first in
         record {
           finds = record {
             solution = x;
             passes = pass_one (p, entry.Settled) new after (x ∷ []) h first (ap (λ n. n.system) a.1) (ap (λ n. n.rules) a.1) refl (omega (arith, a.2));
+            before = h.passed;
+            entries = h.joined ∙ ap (λ l. h.passed ++ l) (first ∙ ap (λ r. (r, entry.Settled) ∷ new.left) (sym path));
+            none_before = h.solutions;
+            solution_is = ap (λ r. yes_vector (length q.system.columns) (decided r)) (sym path);
             chosen = ap (λ n. n.chosen) a.1 ∙ ap (λ s. Some (yes_vector (length s.columns) (decided p))) h.system;
           };
           shorter = omega arith;
@@ -96,11 +105,33 @@ finds_next {q} {budget} mid new b after h a = go mid.left b refl h a
     go ((p, entry.Branch c) ∷ more) zero is h a = absurd (let e = a.0 in cc)
     go ((p, entry.Branch c) ∷ more) (suc b) is h a = absurd (let e = a.0 in cc)
 
+-- the entry of the first step
+first_entry : {x y : Step} {xs ys : List Step} → x ∷ xs ≡ y ∷ ys → x.1 ≡ y.1
+first_entry {x} {y} e = ap (λ l. entry_of_first l x.1) e
+  where
+    entry_of_first : List Step → Entry → Entry
+    entry_of_first [] other = other
+    entry_of_first (step ∷ steps) other = step.1
+
+-- where the first entry that remains counts as a node, the place is one
+stop_node : {q : Searching} (e : Entry) (more : List Step) → StandsBefore q q.path → q.left ≡ (q.path, e) ∷ more → node_of (q.path, e) ≡ Some q.path → IsNode q.rules q.system q.path
+stop_node {q} e more stands first counts =
+    let begin = walk_on_first q.rules q.system q.path in
+    let same : e ≡ entry_at q.rules q.system q.path = first_entry (sym first ∙ stands.goes_on ∙ begin.1) in
+    node_of_start q.rules q.system q.path stands.start (subst (λ e. node_of (q.path, e) ≡ Some q.path) same counts)
+
 -- the search stays
-stop_one : {q mid : Searching} {budget b : ℕ} (x : Step) (new : Searching) (more : List Step) (after : ℕ) → Passes q budget mid b [] → mid.left ≡ x ∷ more → new ≡ stopped mid x.0 → b ≡ 0 → after ≡ 0 → 0 < length (nodes_in (x ∷ more)) → StandsBefore new new.path → Stops q budget new after
-stop_one {q} {mid} {budget} {b} x new more after h is new_is none spent some stands =
+stop_one : {q mid : Searching} {budget b : ℕ} (p : List Bool) (e : Entry) (new : Searching) (more : List Step) (after : ℕ) → Passes q budget mid b [] → mid.left ≡ (p, e) ∷ more → new ≡ stopped mid p → b ≡ 0 → after ≡ 0 → ((r : List Bool) → node_of (r, e) ≡ Some r) → 0 < length (nodes_in ((p, e) ∷ more)) → StandsBefore new new.path → Stops q budget new after
+stop_one {q} {mid} {budget} {b} p e new more after h is new_is none spent counts some stands =
     let left : new.left ≡ mid.left = ap (λ n. n.left) new_is in
+    let path : new.path ≡ p = ap (λ n. n.path) new_is in
+    let first : new.left ≡ (new.path, e) ∷ more = left ∙ is ∙ ap (λ r. (r, e) ∷ more) (sym path) in
     record {
+      node = stop_node e more stands first (counts new.path);
+      next = e;
+      later = more;
+      first = first;
+      counts = counts new.path;
       passes = passes_of h.passed (h.joined ∙ ap (λ l. h.passed ++ l) (sym left)) h.solutions (omega (arith, h.nodes)) (ap (λ n. n.system) new_is ∙ h.system) (ap (λ n. n.rules) new_is ∙ h.rules);
       spent = spent;
       stands = stands;
@@ -116,9 +147,9 @@ stops {q} {budget} mid new b after h a stands = go mid.left b refl h a
     go ((p, entry.Under r) ∷ more) b is h a = absurd (let e = a.0 in cc)
     go ((p, entry.Residue r m) ∷ more) b is h a = absurd (let e = a.0 in cc)
     go ((p, entry.Cut ws) ∷ more) b is h a = absurd a
-    go ((p, entry.Settled) ∷ more) zero is h a = stop_one (p, entry.Settled) new more after h is a.1 refl a.2 (omega arith) stands
+    go ((p, entry.Settled) ∷ more) zero is h a = stop_one p entry.Settled new more after h is a.1 refl a.2 (λ r. refl) (omega arith) stands
     go ((p, entry.Settled) ∷ more) (suc b) is h a = absurd (let e = a.0 in cc)
-    go ((p, entry.Branch c) ∷ more) zero is h a = stop_one (p, entry.Branch c) new more after h is a.1 refl a.2 (omega arith) stands
+    go ((p, entry.Branch c) ∷ more) zero is h a = stop_one p (entry.Branch c) new more after h is a.1 refl a.2 (λ r. refl) (omega arith) stands
     go ((p, entry.Branch c) ∷ more) (suc b) is h a = absurd (let e = a.0 in cc)
 
 -- the length of what is left stays, where the search does

@@ -10,7 +10,7 @@ use Rattle.df_walk.specs.Systems.{System}
 use Rattle.df_walk.specs.Solutions.{yes_vector}
 use Rattle.df_walk.specs.Walks.{Step, decided, entry_at, is_branch, walk_from, below}
 use Rattle.df_walk.specs.Remains.{later_walk, walk_on, IsVisitedFrom, IsVisited, behind_first, turned}
-use Rattle.df_walk.proofs.WalkSteps.{walk_on_from, later_walk-turned, walk_on_over, walk_on_under, walk_on_residue, walk_on_settled, walk_on_branch, branch_leaves}
+use Rattle.df_walk.proofs.WalkSteps.{walk_on_from, walk_on_first, later_walk-turned, walk_on_over, walk_on_under, walk_on_residue, walk_on_settled, walk_on_branch, branch_leaves}
 use Rattle.df_search.specs.declared.Event.{Event}
 use Rattle.df_search.specs.declared.Event.TheVariants.{Branch, Over, Under, Residue, Solution, Spent, Finished}
 use Rattle.df_search.specs.declared.search.State.{State}
@@ -91,14 +91,6 @@ ready Past rules s p h = tt
 ready Solved rules s p h = tt
 ready Done rules s p h = h
 
--- the walk from a path begins there
-walk_first : (rules : Rules) (s : System) (p : List Bool) → (more : List Step) × (walk_on rules s p ≡ (p, entry_at rules s p) ∷ more)
-walk_first rules s p = go (length s.columns - length p)
-  where
-    go : (left : ℕ) → (more : List Step) × (walk_from rules s left p ++ later_walk rules s [] p ≡ (p, entry_at rules s p) ∷ more)
-    go zero = (later_walk rules s [] p, refl)
-    go (suc left) = (below (entry_at rules s p) (walk_from rules s left (p ++ true ∷ []) ++ walk_from rules s left (p ++ false ∷ [])) ++ later_walk rules s [] p, refl)
-
 module _ (old : Searching) (held : Held) (on : old.left ≡ walk_on old.rules old.system held.path) (same : held.system ≡ old.system) where
   becomes : (st : State) (more : List Step) (budget after : ℕ) (event : Event) (e : Entry) → old.left ≡ (held.path, e) ∷ more → AdvancesBy old ((held.path, e) ∷ more) budget event (search_of st old.rules (record { system = old.system; path = held.path })) after → Advances old budget event (search_of st old.rules held) after
   becomes st more budget after event e left h =
@@ -113,7 +105,7 @@ module _ (old : Searching) (held : Held) (on : old.left ≡ walk_on old.rules ol
 
   stays : (e : Entry) (budget : ℕ) → entry_at old.rules old.system held.path ≡ e → ((more : List Step) → AdvancesBy old ((held.path, e) ∷ more) 0 Spent (stopped old held.path) 0) → budget ≡ 0 → Advances old budget Spent (search_of Here old.rules held) 0
   stays e budget is stops none =
-      let first = walk_first old.rules old.system held.path in
+      let first = walk_on_first old.rules old.system held.path in
       let left : old.left ≡ (held.path, e) ∷ first.0 = on ∙ first.1 ∙ ap (λ x. (held.path, x) ∷ first.0) is in
       let h : AdvancesBy old old.left 0 Spent (stopped old held.path) 0 = subst (λ l. AdvancesBy old l 0 Spent (stopped old held.path) 0) (sym left) (stops first.0) in
       let k : AdvancesBy old old.left 0 Spent (search_of Here old.rules held) 0 = subst (λ q. AdvancesBy old old.left 0 Spent q 0) (sym same_search) h in

@@ -5,9 +5,9 @@ use Rattle.df_walk.specs.declared.Entry.{Entry}
 use Rattle.df_walk.specs.declared.Entry.TheVariants as entry
 use Rattle.df_walk.specs.Systems.{System}
 use Rattle.df_walk.specs.Solutions.{yes_vector}
-use Rattle.df_walk.specs.Walks.{Step, decided, entry_at, is_branch, solutions_in, nodes_in}
-use Rattle.df_walk.specs.Paths.{rest, load}
-use Rattle.df_walk.specs.Remains.{later_walk, walk_on, IsVisited, turned}
+use Rattle.df_walk.specs.Walks.{Step, decided, entry_at, is_branch, solutions_in, node_of, nodes_in}
+use Rattle.df_walk.specs.Paths.{IsNode, rest, load}
+use Rattle.df_walk.specs.Remains.{remaining, later_walk, walk_on, IsVisited, IsStart, turned}
 use Rattle.df_search.specs.declared.Event.{Event}
 use Rattle.df_search.specs.declared.Event.TheVariants.{Branch, Over, Under, Residue, Solution, Spent, Finished}
 use Rattle.df_search.specs.declared.Turn.{Turn}
@@ -41,9 +41,12 @@ solutions_left q = solutions_in q.system q.left
 abbrev pub nodes_left : Searching → ℕ
 nodes_left q = length (nodes_in q.left)
 
--- the search may be asked for its place, the path: what remains has the rest and the load of it
+-- the search may be asked for its place, the path, by which the walk comes: what remains are the entries that aren't before it, and they have its rest and its load
 pub record StandsBefore (q : Searching) (p : List Bool) : Type 0 where
   pub place : q.place ≡ Some p
+  pub start : IsStart q.rules q.system p
+  pub entries : q.left ≡ remaining q.rules q.system p
+  pub goes_on : q.left ≡ walk_on q.rules q.system p
   pub solutions : solutions_left q ≡ rest q.system p
   pub nodes : nodes_left q ≡ load q.rules q.system p
 
@@ -88,17 +91,26 @@ pub record Passes (q : Searching) (budget : ℕ) (new : Searching) (after : ℕ)
   pub system : new.system ≡ q.system
   pub rules : new.rules ≡ q.rules
 
--- up to the first solution, for which the search may be asked
+-- up to the first settled entry, which is passed last: its path has the solution, for which the search may be asked
 pub record Finds (q : Searching) (budget : ℕ) (new : Searching) (after : ℕ) : Type 0 where
   pub solution : List Bool
   pub passes : Passes q budget new after (solution ∷ [])
+  pub before : List Step
+  pub entries : q.left ≡ before ++ (new.path, entry.Settled) ∷ new.left
+  pub none_before : solutions_in q.system before ≡ []
+  pub solution_is : solution ≡ yes_vector (length q.system.columns) (decided new.path)
   pub chosen : new.chosen ≡ Some solution
 
--- up to a node that the budget doesn't allow, with no solution before it: the search may be asked for its place
+-- up to a node that the budget doesn't allow, with no solution before it: its entry comes next, and the search may be asked for its place
 pub record Stops (q : Searching) (budget : ℕ) (new : Searching) (after : ℕ) : Type 0 where
   pub passes : Passes q budget new after []
   pub spent : after ≡ 0
   pub stands : StandsBefore new new.path
+  pub node : IsNode new.rules new.system new.path
+  pub next : Entry
+  pub later : List Step
+  pub first : new.left ≡ (new.path, next) ∷ later
+  pub counts : node_of (new.path, next) ≡ Some new.path
   pub more : 0 < nodes_left new
 
 -- all of them, with no solution

@@ -102,6 +102,7 @@ impl<'m> HeldPath<'m> {
     pub(crate) fn extend<L: Ledger>(&mut self, yes: bool, steps: &mut Steps<L>)
         requires { length self.old.path < length self.old.system.columns }
         ensures value { self.new ≡ record { system = self.old.system; path = self.old.path ++ yes ∷ [] } }
+        ensures rises { steps.old ≤ steps.new }
         ensures cost { steps.new ≤ steps.old + widest self.old.system.columns }
     {
         let column = self.length;
@@ -119,6 +120,7 @@ impl<'m> HeldPath<'m> {
         requires { 0 < length self.old.path }
         ensures path { self.old.path ≡ self.new.path ++ result ∷ [] }
         ensures system { self.new.system ≡ self.old.system }
+        ensures rises { steps.old ≤ steps.new }
         ensures cost { steps.new ≤ steps.old + widest self.old.system.columns }
     {
         self.partial.undo(steps);
@@ -133,6 +135,7 @@ impl<'m> HeldPath<'m> {
     pub(crate) fn turn<L: Ledger>(&mut self, steps: &mut Steps<L>) -> bool
         ensures turned { TurnsTo (turned self.old.path) result self.new.path }
         ensures system { self.new.system ≡ self.old.system }
+        ensures rises { steps.old ≤ steps.new }
         ensures cost { steps.new + widest self.old.system.columns * length self.new.path ≤ steps.old + widest self.old.system.columns * (length self.old.path + 2) }
     {
         while self.length() > 0 {

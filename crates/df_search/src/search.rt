@@ -55,6 +55,7 @@ fn go_on<L: Ledger>(state: State, held: &mut HeldPath<'_>, steps: &mut Steps<L>)
     requires { IsReady state held.old.system held.old.path }
     ensures comes { TurnsTo (next_path_of state held.old.path) result held.new.path }
     ensures system { held.new.system ≡ held.old.system }
+    ensures rises { steps.old ≤ steps.new }
     ensures cost { steps.new + widest held.old.system.columns * length held.new.path ≤ steps.old + widest held.old.system.columns * (length held.old.path + 3) }
 {
     match state {
@@ -135,6 +136,7 @@ fn follow<L: Ledger>(held: &mut HeldPath<'_>, path: &Path, steps: &mut Steps<L>)
     ensures whole { IsNone result → (held.new.path ≡ path_of path.now) × (settled_before held.old.system (path_of path.now) ≡ false) }
     ensures settled { IfSome result (IsFirstSettled held.old.system (path_of path.now)) }
     ensures system { held.new.system ≡ held.old.system }
+    ensures rises { steps.old ≤ steps.new }
     ensures cost { steps.new ≤ steps.old + widest held.old.system.columns * path.now.size }
 {
     let chosen = path.chosen();
@@ -181,6 +183,7 @@ impl<'m> Search<'m> {
     ) -> Result<Search<'m>, ResumeError>
         ensures ok { IfOk result (Resumes rules system.now (path_of path.now)) }
         ensures refusal { IfErr result (Refuses rules system.now path.now) }
+        ensures rises { steps.old ≤ steps.new }
         ensures cost { steps.new ≤ steps.old + widest system.now.columns * path.now.size }
         ensures no_cost { length system.now.columns < path.now.size → steps.new ≡ steps.old }
     {
@@ -213,6 +216,7 @@ impl<'m> Search<'m> {
     pub fn advance<L: Ledger>(&mut self, budget: &mut u64, steps: &mut Steps<L>) -> Event
         ensures entry { Advances self.old budget.old result self.new budget.new }
         ensures told { Tells self.old budget.old result self.new budget.new }
+        ensures rises { steps.old ≤ steps.new }
         ensures cost { steps.new + widest self.old.system.columns * length self.new.path ≤ steps.old + widest self.old.system.columns * (length self.old.path + 3) }
     {
         if !go_on(self.state, &mut self.held, steps) {
@@ -228,10 +232,12 @@ impl<'m> Search<'m> {
     /// Goes on to the next solution, if the budget allows it, and lowers the budget by the nodes that it passes.
     ///
     /// `Design` comes exactly where a solution is among the first nodes that remain, as many as the budget; what remained is `chosen` and then what remains now.
+    /// Its settled entry is the last one passed.
     /// `Spent` comes exactly where there is none and more nodes remain, and `Finished` exactly otherwise.
     /// After `Spent` the search may be asked for its `place`, and after `Design` for what is `chosen`.
     pub fn next<L: Ledger>(&mut self, budget: &mut u64, steps: &mut Steps<L>) -> Turn
         ensures turn { Turns self.old budget.old result self.new budget.new }
+        ensures rises { steps.old ≤ steps.new }
         ensures cost { steps.new + widest self.old.system.columns * length self.new.path ≤ steps.old + widest self.old.system.columns * (3 * calls_of self.old result self.new + length self.old.path) }
     {
         loop {
@@ -253,7 +259,8 @@ impl<'m> Search<'m> {
         self.held.values()
     }
 
-    /// The path at which the walk goes on: what remains has its rest and its load. It is there before any other call, and after `Spent`.
+    /// The path at which the walk goes on: what remains are the entries that aren't before it, with its rest and its load.
+    /// It is there before any other call, and after `Spent`, where it is a node whose entry comes next.
     pub fn place(&self) -> PathView<'_>
         requires { IsSome self.now.place }
         ensures long { result.length ≡ length result.decisions.now }

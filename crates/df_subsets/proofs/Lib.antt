@@ -1,6 +1,5 @@
 pub mod Binomials
 pub mod BlockBits
-pub mod BlockComparisons
 pub mod BlockLaws
 pub mod BlockOrders
 pub mod NextBlocks

@@ -7,14 +7,15 @@ use Rattle.std.proofs.lemmas.Bool.{cases_lt}
 use Rattle.std.proofs.Math.Nat.{pow-le-pow_right}
 use Rattle.std.proofs.lemmas.Option.{slice_get_past}
 use Rattle.std.proofs.lemmas.List.Sums.{sum_by-cons}
-use Rattle.df_lists.specs.NumberSets.{members, weight}
-use Rattle.df_lists.specs.BitLaws.{weight_members}
+use Rattle.df_lists.specs.Bits.{members, weight}
+use Rattle.df_lists.proofs.BitLaws.{weight_members}
 use Rattle.df_subsets.specs.Blocks.{Rises, IsBlock}
 use Rattle.df_subsets.specs.Subsets.{points, subsets, binomial, rank}
 use Rattle.df_subsets.proofs.BlockLaws.{Rises-wider}
 use Rattle.df_subsets.proofs.SubsetLists.{subsets_long}
 use Rattle.df_subsets.proofs.Binomials.{binomial_all}
-use Rattle.df_subsets.proofs.BlockBits.{members_weight, members_low, weight_run, weight-append, run_rises, Rises-append}
+use Rattle.df_sets.proofs.MemberBits.{members_weight, members_low}
+use Rattle.df_subsets.proofs.BlockBits.{weight_run, weight-append, run_rises, Rises-append}
 use Rattle.df_subsets.proofs.Places.{later, rank_is, rank_later, at_rank}
 
 later-append : (v x : ℕ) (a b c : List ℕ) → length c ≡ length b → later v c + x ≡ later v b → later v (a ++ c) + x ≡ later v (a ++ b)

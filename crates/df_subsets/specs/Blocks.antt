@@ -1,11 +1,7 @@
 -- Blocks: strictly increasing lists of points.
 use Rattle.std.specs.Prelude.{◌≤◌, ◌<◌, ◌+◌, ◌==◌, ℕ, Bool, true, false, not, ◌&&◌, ◌||◌, List, [], ◌∷◌, nat_lt}
 use Rattle.df_lists.specs.NumberSets.{has_member, with_member}
-
--- the list rises strictly, from `low` on and below v
-abbrev pub Rises : ℕ → ℕ → List ℕ → Type 0
-Rises low v [] = Unit {0}
-Rises low v (p ∷ b) = (low ≤ p) × (p < v) × Rises (p + 1) v b
+pub use Rattle.df_lists.specs.NumberSets.{Rises}
 
 -- a strictly increasing list of points below v
 abbrev pub IsBlock : ℕ → List ℕ → Type 0

@@ -8,10 +8,12 @@ ghost use Rattle.std.specs.Hash as fed;
 ghost use Rattle.std.specs.Hash.{items_Alike, same_Alike};
 ghost use Rattle.std.proofs.Common.{rules};
 ghost use Rattle.df_lists.specs.Membership.{In};
-ghost use Rattle.df_lists.specs.NumberSets.{has_member, with_member, members, weight};
+ghost use Rattle.df_lists.specs.Bits.{members, weight};
+ghost use Rattle.df_lists.specs.NumberSets.{has_member, with_member};
 ghost use Rattle.df_subsets.specs.Blocks.{IsBlock, are_apart, increasing};
 
 use arrayvec::ArrayVec;
+use df_sets::NumberSet;
 use std::cmp::Ordering;
 use std::fmt;
 use std::hash::{Hash, Hasher};
@@ -35,29 +37,28 @@ impl Model for Point {
     ghost inverse_ok = { λ a h. refl };
 }
 
-/// A set of points below 128, kept in 128 bits and seen as the increasing list of its points.
+/// A set of points below 128, seen as the increasing list of its points.
 ///
 /// Blocks are equal, compared and hashed as these lists: a proper prefix comes before the longer list.
 #[derive(Clone, Copy)]
 pub struct Block {
-    bits: u128,
+    points: NumberSet,
 }
 
 impl Model for Block {
-    ghost use Rattle.std.specs.Prelude.{◌<◌, ◌^◌, List, ℕ, refl};
-    ghost use Rattle.std.proofs.Common.{ap};
-    ghost use Rattle.df_lists.specs.NumberSets.{members, weight};
-    ghost use Rattle.df_lists.specs.BitLaws.{weight_members};
+    ghost use Rattle.std.specs.Prelude.{List, ℕ, refl};
 
     ghost Value = { List ℕ };
 
-    ghost view = { λ b. members b.bits };
+    ghost use Rattle.df_subsets.specs.Blocks.{IsBlock};
 
-    ghost invariant = { λ b. b.bits < 2 ^ 128 };
+    ghost view = { λ b. b.points };
 
-    ghost inverse = { λ points. record { bits = weight points } };
+    ghost invariant = { λ b. IsBlock 128 b.points };
 
-    ghost inverse_ok = { λ a h. ap (λ n. record { bits = n }) (weight_members a.bits h) };
+    ghost inverse = { λ points. record { points = points } };
+
+    ghost inverse_ok = { λ a h. refl };
 }
 
 impl Block {
@@ -65,21 +66,25 @@ impl Block {
     pub fn empty() -> Block
         ensures { result ≡ [] }
     {
-        Block { bits: 0 }
+        Block {
+            points: NumberSet::empty(),
+        }
     }
 
     // The block that these bits keep.
     pub(crate) fn from_bits(bits: u128) -> Block
         ensures { result ≡ members bits }
     {
-        Block { bits }
+        Block {
+            points: NumberSet::from_bits(bits),
+        }
     }
 
     // The bits that keep the block.
     pub(crate) fn bits(&self) -> u128
         ensures { result ≡ weight self.now }
     {
-        self.bits
+        self.points.bits()
     }
 
     /// The block of these points, in whatever order they come.
@@ -107,21 +112,21 @@ impl Block {
         ensures size { length self.new ≡ (if has_member self.old p then length self.old else length self.old + 1) }
         ensures within { (v : ℕ) → p < v → IsBlock v self.old → IsBlock v self.new }
     {
-        self.bits |= 1 << p.0;
+        self.points.insert(p.0);
     }
 
     /// Whether this is a point of the block; false from 128 on.
     pub fn has(&self, p: Point) -> bool
         ensures { result ≡ has_member self.now p }
     {
-        p.0 < 128 && (self.bits >> p.0) & 1 == 1
+        self.points.has(p.0)
     }
 
     /// How many points the block has, at most 128.
     pub fn size(&self) -> u8
         ensures { result ≡ length self.now }
     {
-        self.bits.count_ones() as u8
+        self.points.len()
     }
 
     /// The points, increasing.
@@ -130,11 +135,9 @@ impl Block {
         ensures block { IsBlock 128 self.now }
     {
         let mut points = ArrayVec::new();
-        let mut rest = self.bits;
-        while rest != 0 {
-            let p = rest.trailing_zeros() as u8;
+        let mut rest = self.points;
+        while let Some(p) = rest.pop_first() {
             points.push(Point(p));
-            rest -= 1 << p;
         }
         points
     }
@@ -160,7 +163,7 @@ impl PartialEq for Block {
     ghost laws = { Prim.search (comparing, rules, lists_per) };
 
     fn eq(&self, other: &Self) -> bool {
-        self.bits == other.bits
+        self.points == other.points
     }
 }
 
@@ -178,23 +181,7 @@ impl Ord for Block {
     ghost matches_eq = { Prim.search (comparing, rules) };
 
     fn cmp(&self, other: &Self) -> Ordering {
-        let apart = self.bits ^ other.bits;
-        if apart == 0 {
-            return Ordering::Equal;
-        }
-        // at the first point that only one of the two has, the other one has a later point, or ends
-        let first = apart.trailing_zeros();
-        if (self.bits >> first) & 1 == 1 {
-            if other.bits >> first == 0 {
-                Ordering::Greater
-            } else {
-                Ordering::Less
-            }
-        } else if self.bits >> first == 0 {
-            Ordering::Less
-        } else {
-            Ordering::Greater
-        }
+        self.points.cmp(&other.points)
     }
 }
 

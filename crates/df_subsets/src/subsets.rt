@@ -1,7 +1,7 @@
 // All blocks of a size in order: the first, the next, places, and how many there are.
 ghost use Rattle.std.specs.Prelude.{◌≡◌, ◌+◌, ◌-◌, ◌*◌, ◌/◌, ◌^◌, ◌<◌, ◌≤◌, length, slice_get, IfSome};
 ghost use Rattle.std.specs.List.{range_with_len};
-ghost use Rattle.df_lists.specs.NumberSets.{weight};
+ghost use Rattle.df_lists.specs.Bits.{weight};
 ghost use Rattle.df_subsets.specs.Blocks.{IsBlock};
 ghost use Rattle.df_subsets.specs.Subsets.{points as points_below, subsets, binomial as binomial_of, rank as rank_of};
 

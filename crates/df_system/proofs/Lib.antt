@@ -1,7 +1,7 @@
 pub mod StoredColumns
 pub mod SortedCells
 pub mod PositiveCells
-pub mod GatheredColumns
+pub mod MadeColumns
 pub mod SystemParts
 pub mod DenseSystems
 pub mod CountedTallies

@@ -4,6 +4,7 @@ use Rattle.df_walk.specs.Systems.{System, IsSystem}
 use Rattle.df_walk.specs.Assignments.{Decisions}
 use Rattle.df_system.specs.declared.tallies.Tally.{Tally}
 use Rattle.df_system.specs.Tallies.{AreTallied}
+use Rattle.df_system.specs.declared.limits.TheConstants.{ROW_LIMIT}
 
 -- a system, the decision of each column, and the decided columns, the last one first
 pub record Assigned : Type 0 where
@@ -26,6 +27,6 @@ pub record IsKept (columns : ℕ) (ds : Decisions) (trail : List ℕ) (count : �
 -- decisions, their trail and their tallies agree
 pub record IsPartial (s : System) (ds : Decisions) (trail : List ℕ) (count : ℕ) (tallies : List Tally) : Type 0 where
   pub system : IsSystem s
-  pub few_rows : length s.targets < 4294967296
+  pub few_rows : length s.targets < ROW_LIMIT
   pub kept : IsKept (length s.columns) ds trail count
   pub tallied : AreTallied s ds tallies

@@ -3,13 +3,17 @@
 //! The crates above read entries by `System::entry` and make decisions by a `Partial`, both of which count their steps, and ask for needs, caps, and the least row that is over or under.
 #![tactic(auto)]
 
+pub mod columns;
 mod divisors;
+pub mod limits;
 pub mod partial;
 pub mod path;
 pub mod system;
 mod tallies;
 
+pub use columns::Columns;
 pub use df_walk::{Cell, Rules};
+pub use limits::{MOST_COLUMNS, MOST_ENTRIES, ROW_LIMIT};
 pub use partial::Partial;
 pub use path::Path;
 pub use system::{System, SystemError};

@@ -1,12 +1,15 @@
-ghost use Rattle.std.specs.Prelude.{◌≡◌, ◌≢◌, ℕ, ◌+◌, ◌-◌, ◌*◌, ◌/◌, ◌%◌, ◌<◌, ◌≤◌, [], ◌∷◌, ◌++◌, length, drop, slice_index, All, IfOk, IfErr, IfSome, IsNone, vec_len};
+ghost use Rattle.std.specs.Prelude.{◌≡◌, ◌≢◌, ℕ, ◌+◌, ◌-◌, ◌*◌, ◌%◌, ◌<◌, ◌≤◌, [], ◌∷◌, ◌++◌, length, drop, slice_index, All, IfOk, IfErr, IfSome, IsNone, vec_len};
 ghost use Rattle.df_walk.specs.Systems.{IsSystem, AreCells, entry_of, entries, entry, target, cells};
 ghost use Rattle.df_walk.specs.Assignments.{cap, common_divisor};
-ghost use Rattle.df_system.specs.Storage.{AreStarts, AreGathered, positive_cells, columns_of, stored, IsDense, IsZeroColumn, IsZeroAmong};
+ghost use Rattle.df_system.specs.Storage.{AreStarts, columns_of, dense_columns, stored, IsDense, IsZeroColumn, IsZeroAmong};
 
+use crate::OutOfMemory;
+use crate::columns::Columns;
 use crate::divisors::{Divisors, link_columns};
+use crate::limits::{MOST_COLUMNS, MOST_ENTRIES, ROW_LIMIT};
 use df_steps::Steps;
 use df_walk::Cell;
-use std::alloc::{AllocError, Global};
+use std::alloc::Global;
 use std::marker::Model;
 use std::sync::ledger::Ledger;
 
@@ -63,53 +66,27 @@ fn value_in(column: &[Cell], row: u32) -> u32
     0
 }
 
-/// Appends a column's positive entries, each with its row.
-fn push_positive(cells: &mut Vec<Cell>, column: &[u32]) -> Result<(), AllocError>
-    requires { length column.now < 4294967296 }
-    ensures { IfOk result (λ _. cells.new.items ≡ cells.old.items ++ positive_cells 0 column.now) }
-{
-    for (row, value) in column.iter().enumerate() {
-        if *value > 0 {
-            cells.push(Cell {
-                row: row as u32,
-                value: *value,
-            })?;
-        }
-    }
-    Ok(())
-}
-
-/// The positive entries of all columns, and where each column's start.
-#[derive(Drop)]
-struct Gathered {
-    starts: Vec<u32>,
-    cells: Vec<Cell>,
-}
-
-/// Gathers the positive entries of columns of so many rows, which stand one after another.
-fn gather(alloc: Global, rows: usize, entries: &[u32]) -> Result<Gathered, AllocError>
+/// The positive entries of columns of so many rows, which stand one after another.
+fn dense_columns(alloc: Global, rows: usize, entries: &[u32]) -> Result<Columns, OutOfMemory>
     requires some { 0 < rows }
-    requires few_rows { rows < 4294967296 }
-    requires few { length entries.now ≤ 16777216 }
-    ensures { IfOk result (λ g. AreGathered rows entries.now (length entries.now / rows) g.starts.items g.cells.items) }
+    requires few_rows { rows < ROW_LIMIT }
+    requires few { length entries.now ≤ MOST_ENTRIES }
+    ensures { IfOk result (λ c. c ≡ dense_columns rows entries.now) }
 {
-    let columns = entries.len() / rows;
+    let count = entries.len() / rows;
     let positive = entries.iter().filter(|entry| **entry > 0).count();
-    let mut starts = Vec::with_capacity(alloc, columns + 1)?;
-    let mut cells = Vec::with_capacity(alloc, positive)?;
-    starts.push(0)?;
-    for column in 0..columns {
+    let mut columns = Columns::with_capacity(alloc, count, positive)?;
+    for column in 0..count {
         let start = column * rows;
-        push_positive(&mut cells, &entries[start..start + rows])?;
-        starts.push(cells.len() as u32)?;
+        columns.push_entries(&entries[start..start + rows])?;
     }
-    Ok(Gathered { starts, cells })
+    Ok(columns)
 }
 
 /// The first column without a cell.
 fn first_empty(starts: &[u32]) -> Option<u32>
     requires some { 0 < length starts.now }
-    requires few { length starts.now ≤ 16777217 }
+    requires few { length starts.now ≤ MOST_ENTRIES + 1 }
     ensures none { IsNone result → (k : ℕ) → k + 1 < length starts.now → slice_index starts.now k ≢ slice_index starts.now (k + 1) }
     ensures found { IfSome result (λ c. (c + 1 < length starts.now) × (slice_index starts.now c ≡ slice_index starts.now (c + 1)) × ((k : ℕ) → k < c → slice_index starts.now k ≢ slice_index starts.now (k + 1))) }
 {
@@ -131,9 +108,9 @@ impl System {
     ) -> Result<System, SystemError>
         requires starts { AreStarts starts.items (length cells.items) }
         requires columns { All (AreCells (length targets.items)) (columns_of starts.items cells.items) }
-        requires few_rows { vec_len targets < 4294967296 }
-        requires few_columns { vec_len starts ≤ 16777217 }
-        requires few_cells { vec_len cells ≤ 16777216 }
+        requires few_rows { vec_len targets < ROW_LIMIT }
+        requires few_columns { vec_len starts ≤ MOST_ENTRIES + 1 }
+        requires few_cells { vec_len cells ≤ MOST_ENTRIES }
         ensures ok { IfOk result (λ s. s ≡ stored targets.items starts.items cells.items) }
         ensures system { IfOk result IsSystem }
         ensures zero_column { IfErr result (IsZeroColumn (columns_of starts.items cells.items)) }
@@ -152,29 +129,49 @@ impl System {
         })
     }
 
+    /// A system of these targets and columns.
+    ///
+    /// The conditions: in each column the rows increase and are in range, and the values are positive; there are at most `MOST_ENTRIES` columns, and fewer rows than `ROW_LIMIT`.
+    /// `ZeroColumn` comes exactly where a column has no cell, with the first such column.
+    pub fn from_columns(
+        alloc: Global,
+        targets: Vec<u32>,
+        columns: Columns,
+    ) -> Result<System, SystemError>
+        requires columns { All (AreCells (length targets.items)) columns }
+        requires few_rows { vec_len targets < ROW_LIMIT }
+        requires few_columns { length columns ≤ MOST_ENTRIES }
+        ensures ok { IfOk result (λ s. s ≡ record { targets = targets.items; columns = columns }) }
+        ensures system { IfOk result IsSystem }
+        ensures zero_column { IfErr result (IsZeroColumn columns) }
+    {
+        let Columns { starts, cells } = columns;
+        System::from_parts(alloc, targets, starts, cells)
+    }
+
     /// A system of these targets, with the entries column after column, each column's by its rows.
     ///
-    /// The conditions: there is a row, there are fewer than 4,294,967,296, and the number of entries is a multiple of theirs and at most 16,777,216.
-    /// `ZeroColumn` comes exactly where a column has no positive entry, with the first such column, but where memory is wanted first.
+    /// The conditions: there is a row, there are fewer rows than `ROW_LIMIT`, and the number of entries is a multiple of theirs and at most `MOST_ENTRIES`.
+    /// `ZeroColumn` comes exactly where a column has no positive entry, with the first such column, unless memory runs out before.
     pub fn new(alloc: Global, targets: Vec<u32>, entries: Vec<u32>) -> Result<System, SystemError>
         requires row { 0 < vec_len targets }
-        requires few_rows { vec_len targets < 4294967296 }
+        requires few_rows { vec_len targets < ROW_LIMIT }
         requires whole_columns { vec_len entries % vec_len targets ≡ 0 }
-        requires few { vec_len entries ≤ 16777216 }
+        requires few { vec_len entries ≤ MOST_ENTRIES }
         ensures ok { IfOk result (IsDense targets.items entries.items) }
         ensures zero_column { IfErr result (IsZeroAmong (length targets.items) entries.items) }
     {
-        let Ok(gathered) = gather(alloc, targets.len(), &entries) else {
+        let Ok(columns) = dense_columns(alloc, targets.len(), &entries) else {
             return Err(SystemError::OutOfMemory);
         };
-        System::from_parts(alloc, targets, gathered.starts, gathered.cells)
+        System::from_columns(alloc, targets, columns)
     }
 
     /// A system of these targets and cells: column k has the cells from place `starts[k]` up to `starts[k + 1]`.
     ///
     /// The conditions: `starts` begins with 0, doesn't fall, ends with the number of cells, and has one number more than there are columns.
     /// In each column the rows increase and are in range, and the values are positive.
-    /// There are at most 16,777,216 cells and 65,536 columns, and fewer than 4,294,967,296 rows; there may be none.
+    /// There are at most `MOST_ENTRIES` cells and `MOST_COLUMNS` columns, and fewer rows than `ROW_LIMIT`; there may be none.
     /// `ZeroColumn` comes exactly where a column has no cell, with the first such column.
     pub fn sparse(
         alloc: Global,
@@ -184,9 +181,9 @@ impl System {
     ) -> Result<System, SystemError>
         requires starts { AreStarts starts.items (length cells.items) }
         requires columns { All (AreCells (length targets.items)) (columns_of starts.items cells.items) }
-        requires few_rows { vec_len targets < 4294967296 }
-        requires few_columns { vec_len starts ≤ 65537 }
-        requires few_cells { vec_len cells ≤ 16777216 }
+        requires few_rows { vec_len targets < ROW_LIMIT }
+        requires few_columns { vec_len starts ≤ MOST_COLUMNS + 1 }
+        requires few_cells { vec_len cells ≤ MOST_ENTRIES }
         ensures ok { IfOk result (λ s. s ≡ stored targets.items starts.items cells.items) }
         ensures system { IfOk result IsSystem }
         ensures zero_column { IfErr result (IsZeroColumn (columns_of starts.items cells.items)) }
@@ -205,7 +202,7 @@ impl System {
     /// The number of columns.
     pub fn columns(&self) -> u32
         ensures value { result ≡ length self.now.columns }
-        ensures few { result ≤ 16777216 }
+        ensures few { result ≤ MOST_ENTRIES }
         ensures system { IsSystem self.now }
     {
         (self.starts.len() - 1) as u32
@@ -232,7 +229,7 @@ impl System {
 
     /// The cells of all columns, one after another.
     pub(crate) fn all_cells(&self) -> &[Cell]
-        ensures few { length result.now ≤ 16777216 }
+        ensures few { length result.now ≤ MOST_ENTRIES }
         ensures rows { All (λ cell. cell.row < length self.now.targets) result.now }
         ensures sums { (row : ℕ) → entry_of result.now row ≡ cap (entries self.now row) [] }
     {

@@ -7,8 +7,8 @@ use Rattle.df_walk.specs.declared.Rules.{Rules}
 use Rattle.df_walk.specs.Systems.{System, IsSystem}
 use Rattle.df_walk.specs.Walks.{entry_at, below, walk_from, walk, solution_of, solutions_in, node_of, nodes_in}
 use Rattle.df_walk.specs.Paths.{is_node, not_before}
-use Rattle.df_walk.specs.Remains.{later_walk, walk_on, IsVisitedFrom, IsVisited}
-use Rattle.df_walk.specs.LawStatements.{earlier, IsCutAt}
+use Rattle.df_walk.specs.Remains.{earlier, later_walk, walk_on, IsVisitedFrom, IsVisited}
+use Rattle.df_walk.specs.LawStatements.{IsCutAt}
 use Rattle.df_walk.proofs.WalkOrder.{on_path, walk_is, walk_passes, walk_fails, below_branch, not_before_self, not_before_prefix, not_before_no, not_before_yes, walk-not_before}
 use Rattle.df_walk.proofs.WalkSolutions.{solutions_in-walk}
 use Rattle.df_walk.proofs.RestSolutions.{solutions_in-walk_on}

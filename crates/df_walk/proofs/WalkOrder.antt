@@ -10,7 +10,7 @@ use Rattle.df_walk.specs.declared.Entry.TheVariants.{Branch, Over, Under, Settle
 use Rattle.df_walk.specs.Systems.{System}
 use Rattle.df_walk.specs.Walks.{Step, entry_at, is_branch, below, walk_from, walk}
 use Rattle.df_walk.specs.Paths.{not_before}
-use Rattle.df_walk.specs.Remains.{later_walk, walk_on, IsVisitedFrom, IsVisited}
+use Rattle.df_walk.specs.Remains.{remaining, later_walk, walk_on, IsVisitedFrom, IsVisited, IsStart}
 
 -- the test of a path
 abbrev pub on_path : (List Bool → Bool) → Step → Bool
@@ -103,6 +103,9 @@ walk_from-not_before rules s (suc left) before (false ∷ p) long short v =
     let second = rw (append_assoc before (false ∷ []) p) at (walk_from-not_before rules s left (before ++ false ∷ []) p (omega (arith, length-append before (false ∷ []))) (omega arith) v.1) in
     rw (not_before_prefix before false p, below_branch (entry_at rules s before) (A ++ B) v.0) (filter-append (on_path t) A B ∙ rw (first, second))
 
--- what is left of the walk is those entries that aren't before p
+-- what remains of the walk is those steps that aren't before p
 pub walk-not_before : (rules : Rules) (s : System) (p : List Bool) → length p ≤ (length s.columns) → IsVisited rules s p → filter (on_path (not_before p)) (walk rules s []) ≡ walk_on rules s p
 walk-not_before rules s p short v = rw (walk_is rules s [] (length s.columns) (omega arith)) (walk_from-not_before rules s (length s.columns) [] p (omega arith) short v)
+
+pub remains_is : (rules : Rules) (s : System) (p : List Bool) → IsStart rules s p → remaining rules s p ≡ walk_on rules s p
+remains_is rules s p at = walk-not_before rules s p at.short at.visited

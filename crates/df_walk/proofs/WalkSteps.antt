@@ -79,3 +79,11 @@ later_walk-behind rules s before false p (Some q) h = h ∙ rw (append_assoc bef
 pub later_walk-turned : (rules : Rules) (s : System) (before p : List Bool) → later_walk rules s before p ≡ walk_on_from rules s before (turned p)
 later_walk-turned rules s before [] = refl
 later_walk-turned rules s before (b ∷ p) = later_walk-behind rules s before b p (turned p) (later_walk-turned rules s (before ++ b ∷ []) p)
+
+-- what remains at a path begins with its own entry
+pub walk_on_first : (rules : Rules) (s : System) (p : List Bool) → (more : List Step) × (walk_on rules s p ≡ (p, entry_at rules s p) ∷ more)
+walk_on_first rules s p = go (length s.columns - length p)
+  where
+    go : (left : ℕ) → (more : List Step) × (walk_from rules s left p ++ later_walk rules s [] p ≡ (p, entry_at rules s p) ∷ more)
+    go zero = (later_walk rules s [] p, refl)
+    go (suc left) = (below (entry_at rules s p) (walk_from rules s left (p ++ true ∷ []) ++ walk_from rules s left (p ++ false ∷ [])) ++ later_walk rules s [] p, refl)

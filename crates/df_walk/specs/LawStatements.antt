@@ -7,8 +7,8 @@ use Rattle.df_walk.specs.Systems.{System, IsSystem, entries, entry, target, cell
 use Rattle.df_walk.specs.Assignments.{Decisions, taken, cap, divisor, common_divisor, is_settled}
 use Rattle.df_walk.specs.Solutions.{keeps, is_solution, solutions, solutions_with, yes_vector, chosen_columns}
 use Rattle.df_walk.specs.Walks.{Step, decided, walk, solutions_in, nodes_in, entries_in}
-use Rattle.df_walk.specs.Paths.{is_node, nodes, not_before, rest, load, WrittenPath, IsWritten, path_of, written_path}
-use Rattle.df_walk.specs.Remains.{walk_on}
+use Rattle.df_walk.specs.Paths.{is_node, nodes, rest, load, WrittenPath, IsWritten, path_of, written_path}
+use Rattle.df_walk.specs.Remains.{remaining, earlier, walk_on}
 use Rattle.df_walk.specs.Logs.{Proves, AreLogs, Completes}
 
 -- what a decision for an undecided column changes in a row: yes takes the column's entry, no takes nothing, and either lowers the cap by it
@@ -53,10 +53,6 @@ SettledIsOne = (s : System) (ds : Decisions) → IsSystem s → length ds ≤ le
 abbrev pub SolutionsAreDistinct : Type 0
 SolutionsAreDistinct = (s : System) (x : List Bool) → length x ≡ length s.columns → is_solution s x ≡ true → filter (keeps (decided x)) (solutions s) ≡ x ∷ []
 
--- the steps of a walk that come before a path
-abbrev pub earlier : List Bool → List Step → List Step
-earlier p steps = filter (λ step. not (not_before p step.0)) steps
-
 -- the walk from the empty path has the solutions and the nodes, each once and in order
 pub record WalksAll (rules : Rules) (s : System) : Type 0 where
   pub solutions_are : solutions_in s (walk rules s []) ≡ solutions s
@@ -68,7 +64,7 @@ WalksAreWhole = (rules : Rules) (s : System) → IsSystem s → WalksAll rules s
 -- a walk cut at a node: first what comes before it, then what remains there, which has the node's rest and load
 pub record IsCutAt (rules : Rules) (s : System) (p : List Bool) : Type 0 where
   pub parts : walk rules s [] ≡ earlier p (walk rules s []) ++ walk_on rules s p
-  pub remains : filter (λ step. not_before p step.0) (walk rules s []) ≡ walk_on rules s p
+  pub remains : remaining rules s p ≡ walk_on rules s p
   pub rest_remains : solutions_in s (walk_on rules s p) ≡ rest s p
   pub load_remains : length (nodes_in (walk_on rules s p)) ≡ load rules s p
   pub solutions_add : solutions_in s (earlier p (walk rules s [])) ++ rest s p ≡ solutions s

@@ -1,5 +1,5 @@
 -- Paths, nodes, and what isn't before a path: the rest and the load.
-use Rattle.std.specs.Prelude.{ℕ, suc, zero, ◌<◌, Bool, true, false, not, ◌&&◌, ◌||◌, ◌==◌, List, [], ◌∷◌, ◌++◌, length, map, filter, All}
+use Rattle.std.specs.Prelude.{◌≡◌, ℕ, suc, zero, ◌<◌, ◌≤◌, Bool, true, false, not, ◌&&◌, ◌||◌, ◌==◌, List, [], ◌∷◌, ◌++◌, length, map, filter, All}
 use Rattle.std.specs.List.{list_all, list_any, range_with_len}
 use Rattle.std.specs.List.Sorted.{IsStrictlyIncreasing}
 use Rattle.df_walk.specs.declared.Rules.{Rules}
@@ -29,6 +29,11 @@ settled_before s p = settled_between s [] p
 -- live, and no proper prefix is settled
 abbrev pub is_node : Rules → System → List Bool → Bool
 is_node rules s p = is_live rules s (decided p) && not (settled_before s p)
+
+-- the path is a node of the system
+pub record IsNode (rules : Rules) (s : System) (p : List Bool) : Type 0 where
+  pub short : length p ≤ length s.columns
+  pub node : is_node rules s p ≡ true
 
 -- all paths of at most so many columns: a prefix before its extensions, and yes before no
 abbrev pub paths : ℕ → List (List Bool)

@@ -1,9 +1,18 @@
--- What remains of the walk at a path, as a search holds it.
-use Rattle.std.specs.Prelude.{◌≡◌, ℕ, zero, suc, ◌-◌, Bool, true, false, List, [], ◌∷◌, ◌++◌, length, replicate, Option, Some, None}
+-- What remains of the walk at a path: as the steps that aren't before it, and as a search holds it.
+use Rattle.std.specs.Prelude.{◌≡◌, ℕ, zero, suc, ◌-◌, ◌≤◌, Bool, true, false, not, List, [], ◌∷◌, ◌++◌, length, filter, replicate, Option, Some, None}
 use Rattle.df_walk.specs.declared.Rules.{Rules}
 use Rattle.df_walk.specs.Systems.{System}
 use Rattle.df_walk.specs.Assignments.{Decisions}
 use Rattle.df_walk.specs.Walks.{Step, decided, entry_at, is_branch, walk}
+use Rattle.df_walk.specs.Paths.{not_before}
+
+-- the steps of the whole walk whose path isn't before p
+abbrev pub remaining : Rules → System → List Bool → List Step
+remaining rules s p = filter (λ step. not_before p step.0) (walk rules s [])
+
+-- the steps that come before a path
+abbrev pub earlier : List Bool → List Step → List Step
+earlier p steps = filter (λ step. not (not_before p step.0)) steps
 
 -- what remains once the paths that extend `before ++ p` are done: at each yes of p, from the last to the first, the walk with no
 abbrev pub later_walk : Rules → System → List Bool → List Bool → List Step
@@ -22,6 +31,11 @@ IsVisitedFrom rules s before (b ∷ p) = (is_branch (entry_at rules s before) �
 
 abbrev pub IsVisited : Rules → System → List Bool → Type 0
 IsVisited rules s p = IsVisitedFrom rules s [] p
+
+-- a search or a run may begin at the path: the walk comes by it, as by the empty path and by each node
+pub record IsStart (rules : Rules) (s : System) (p : List Bool) : Type 0 where
+  pub short : length p ≤ length s.columns
+  pub visited : IsVisited rules s p
 
 -- a path as the decisions of so many columns
 abbrev pub padded : ℕ → List Bool → Decisions

@@ -33,7 +33,7 @@ find-requires-clause-few c =
     let sum = c.summed-sum.ensures ∙ ap (λ n. sum_by (binomial n) sizes) c.points-points.ensures.points in
     let next = sum_more (binomial v) sizes c.loop-size.size-index c.loop-size-test.true in
     let part = sum_part (binomial v) sizes (c.loop-size.size-index + 1) in
-    let few = c.if-sum-gt8000000.false in
+    let few = c.if-sum-gt-MOST_SUMMED.false in
     subst (λ N. binomial (point_count N) (get_or sizes c.loop-size.size-index 0) ≤ 8000000) (sym c.in_ok-images.ensures) (omega (arith, sum, next, part, few))
 
 pub loop-size-preserved : goal.loop-size-preserved

@@ -1,6 +1,6 @@
 use Rattle.std.proofs.Common.{◌≡◌, ◌+◌, ◌-◌, ◌^◌, ◌<◌, ◌≤◌}
 use Rattle.std.specs.List.{range_with_len}
-use Rattle.df_lists.specs.NumberSets.{weight}
+use Rattle.df_lists.specs.Bits.{weight}
 use Rattle.df_subsets.proofs.subsets.below_top.Given as goal
 
 abbrev pub invariant-loop-top : goal.invariant-loop-top

@@ -1,5 +1,5 @@
 use Rattle.std.proofs.Common.{◌≡◌, ap, sym, ◌∙◌, ◌^◌, ◌-◌, ◌/◌, arith, Some}
-use Rattle.df_lists.specs.NumberSets.{members}
+use Rattle.df_lists.specs.Bits.{members}
 use Rattle.std.proofs.lemmas.Nat.Bits.{ones_shr}
 use Rattle.df_subsets.specs.Subsets.{points}
 use Rattle.df_subsets.proofs.Places.{inside_at}

@@ -1,9 +1,9 @@
 use Rattle.std.proofs.Common.{◌≡◌, ◌+◌, ◌-◌, ◌*◌, ◌%◌, ◌^◌, ◌<◌, ap, sym, ◌∙◌, arith, length, slice_get, Some}
 use Rattle.std.specs.List.{range_with_len}
 use Rattle.std.proofs.lemmas.Nat.{one_shl}
-use Rattle.df_lists.specs.NumberSets.{members, weight}
+use Rattle.df_lists.specs.Bits.{members, weight}
 use Rattle.df_subsets.specs.Subsets.{subsets, rank}
-use Rattle.df_subsets.proofs.BlockBits.{weight_bound}
+use Rattle.df_sets.proofs.MemberBits.{weight_bound}
 use Rattle.df_subsets.proofs.Places.{inside_at}
 use Rattle.df_subsets.proofs.NextBlocks.{last_one, next_one, has_gap, joined_bits}
 use Rattle.df_subsets.proofs.subsets.next.Goals as goal

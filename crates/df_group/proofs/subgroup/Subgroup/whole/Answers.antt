@@ -1,8 +1,9 @@
 use Rattle.std.proofs.Common.{◌≡◌, sym, ap, ◌∙◌, arith}
 use Rattle.std.specs.List.{range_with_len}
 use Rattle.df_lists.specs.NumberSets.{with_member}
+use Rattle.df_lists.proofs.SetLaws.{range_put}
 use Rattle.df_group.specs.Elements.{order_of}
-use Rattle.df_group.proofs.GeneratedSets.{range_put, generated_whole}
+use Rattle.df_group.proofs.GeneratedSets.{generated_whole}
 use Rattle.df_group.proofs.subgroup.Subgroup.whole.Goals as goal
 
 pub loop-e-preserved : goal.loop-e-preserved

@@ -1,7 +1,7 @@
 use Rattle.std.proofs.Common.{◌≡◌, ◌<◌, ◌+◌, ◌∙◌, ap, arith, length, take, true, false, ◌∷◌, ◌++◌, [], length-append}
 use Rattle.df_walk.specs.Systems.{widest}
 use Rattle.df_search.proofs.StandingPaths.{held_more, held_length, IsHeld-from_At}
-use Rattle.df_search.proofs.HeldNeeds.{cells_le_widest}
+use Rattle.df_walk.proofs.ColumnWidths.{cells_within}
 use Rattle.df_search.proofs.held_path.HeldPath.extend.Goals as goal
 use Rattle.df_search.proofs.held_path.HeldPath.extend.Goals.{then-yes, else-yes}
 
@@ -24,7 +24,7 @@ pub returns-clause-cost : goal.returns-clause-cost
 returns-clause-cost g c =
     let h = c.self.invariant.held in
     let same = ap (λ s. widest s.columns) (h.same ∙ ap (λ v. v.system) c.self.view_is) in
-    let most = cells_le_widest c.self.inside.partial.system c.self.inside.length in
+    let most = cells_within c.self.inside.partial.system c.self.inside.length in
     elim c.if-yes.branch [
       | then-yes w ↦ omega (arith, w.take.ensures.cost, w.steps-is)
       | else-yes w ↦ omega (arith, w.leave.ensures.cost, w.steps-is)

@@ -1,7 +1,7 @@
 use Rattle.std.proofs.Common.{◌<◌, ◌-◌, ◌∙◌, ap, sym, arith, length}
 use Rattle.df_walk.specs.Systems.{widest}
 use Rattle.df_search.proofs.StandingPaths.{held_less, held_length, IsHeld-from_At}
-use Rattle.df_search.proofs.HeldNeeds.{cells_le_widest}
+use Rattle.df_walk.proofs.ColumnWidths.{cells_within}
 use Rattle.std.proofs.lemmas.List.{length-take-le}
 use Rattle.df_search.proofs.held_path.HeldPath.retreat.Goals as goal
 
@@ -16,4 +16,4 @@ pub returns-clause-cost : goal.returns-clause-cost
 returns-clause-cost g c =
     let h = c.self.invariant.held in
     let same = ap (λ s. widest s.columns) (h.same ∙ ap (λ v. v.system) c.self.view_is) in
-    omega (arith, c.undo.ensures.cost, cells_le_widest c.self.inside.partial.system c.undo.result)
+    omega (arith, c.undo.ensures.cost, cells_within c.self.inside.partial.system c.undo.result)

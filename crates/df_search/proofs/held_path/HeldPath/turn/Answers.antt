@@ -19,5 +19,6 @@ loop-self-preserved g c =
     record {
       same = sym (ap turned c.if-retreat.ensures.path ∙ turned_no q) ∙ c.loop-self.invariant.same;
       system = c.retreat.ensures.system ∙ c.loop-self.invariant.system;
+      rises = omega (arith, c.retreat.ensures.rises, c.loop-self.invariant.rises);
       cost = omega (arith, ap (λ n. w * n) long, c.retreat.ensures.cost, c.loop-self.invariant.cost);
     }

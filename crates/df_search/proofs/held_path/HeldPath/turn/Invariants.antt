@@ -7,6 +7,7 @@ abbrev pub invariant-loop-self : goal.invariant-loop-self
 invariant-loop-self g l = record {
   same : turned l.self.path ≡ turned l.initial.self.path;
   system : l.self.system ≡ l.initial.self.system;
+  rises : l.initial.steps ≤ l.steps;
   cost : l.steps + widest l.initial.self.system.columns * length l.self.path ≤ l.initial.steps + widest l.initial.self.system.columns * length l.initial.self.path;
 }
 

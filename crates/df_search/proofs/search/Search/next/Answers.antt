@@ -40,6 +40,7 @@ loop-preserved g c =
     let start = length c.args.self.now.left in
     record {
       passes = skipped.passes;
+      rises = omega (arith, c.loop.invariant.rises, c.advance.ensures.rises);
       cost = cost_more (widest c.args.self.now.system.columns) c.args.steps.now c.loop.steps c.advance.new.steps (length c.args.self.now.path) (length c.loop.self.path) (length c.advance.new.self.path) (start - length c.loop.self.left) (start - length c.advance.new.self.left) c.loop.invariant.cost (rw passes.system at c.advance.ensures.cost) (omega (arith, skipped.shorter, passed_count passes));
     }
 

@@ -6,6 +6,7 @@ use Rattle.df_search.proofs.search.Search.next.Given as goal
 abbrev pub invariant-loop : goal.invariant-loop
 invariant-loop g l = record {
   passes : Passes l.initial.self l.initial.budget l.self l.budget [];
+  rises : l.initial.steps ≤ l.steps;
   cost : l.steps + widest l.initial.self.system.columns * length l.self.path ≤ l.initial.steps + widest l.initial.self.system.columns * (3 * (length l.initial.self.left - length l.self.left) + length l.initial.self.path);
 }
 

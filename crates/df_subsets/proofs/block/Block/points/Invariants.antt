@@ -1,9 +1,8 @@
-use Rattle.std.proofs.Common.{◌≡◌, ◌++◌}
-use Rattle.df_lists.specs.NumberSets.{members}
+use Rattle.std.proofs.Common.{◌≡◌, ◌++◌, length}
 use Rattle.df_subsets.proofs.block.Block.points.Given as goal
 
-abbrev pub invariant-loop-rest : goal.invariant-loop-rest
-invariant-loop-rest l = l.points.items ++ members l.rest ≡ l.self
+abbrev pub invariant-loop-p : goal.invariant-loop-p
+invariant-loop-p l = l.points.items ++ l.rest ≡ l.self
 
-abbrev pub decreases-loop-rest : goal.decreases-loop-rest
-decreases-loop-rest l = l.rest
+abbrev pub decreases-loop-p : goal.decreases-loop-p
+decreases-loop-p l = length l.rest

@@ -1,0 +1,83 @@
+-- Sets of numbers as increasing lists: told by their members, made by a test, of a larger bound.
+use Rattle.std.proofs.Common.{◌≡◌, ℕ, zero, suc, ◌+◌, ◌-◌, ◌<◌, ◌≤◌, Bool, true, false, cond, eqb, ltb, ◌&&◌, List, [], ◌∷◌, ◌++◌, filter, refl, sym, ap, ◌∙◌, subst, arith, tests, append-nil}
+use Rattle.std.specs.List.{range_with_len, list_any}
+use Rattle.std.proofs.lemmas.Bool.{and_from, and_parts}
+use Rattle.df_lists.specs.Membership.{In}
+use Rattle.df_lists.specs.LeastMembers.{any_below}
+use Rattle.df_lists.specs.NumberSets.{has_member, with_member, IsSet}
+use Rattle.df_lists.proofs.CountLaws.{filter_same, has_filter}
+use Rattle.df_lists.proofs.MemberLaws.{In-filter_gives, In-range, In-range_gives}
+use Rattle.df_lists.proofs.RangeLaws.{filter_more}
+use Rattle.df_lists.proofs.LeastLaws.{any_from as any_below_from, any_found}
+use Rattle.df_lists.proofs.TestLaws.{same_tests, any_from, any_gives, has_from, has_gives}
+
+-- a list is told by its members
+pub same_sets : (n : ℕ) (xs ys : List ℕ) → IsSet n xs → IsSet n ys → ((x : ℕ) → x < n → has_member xs x ≡ has_member ys x) → xs ≡ ys
+same_sets n xs ys i j h = i ∙ filter_same (has_member xs) (has_member ys) n h ∙ sym j
+
+pub filter_is_set : (t : ℕ → Bool) (n : ℕ) → IsSet n (filter t (range_with_len 0 n))
+filter_is_set t n = filter_same t (has_member (filter t (range_with_len 0 n))) n (λ i l. sym (has_filter t n i l))
+
+pub set_below : (n : ℕ) (xs : List ℕ) → IsSet n xs → (x : ℕ) → has_member xs x ≡ true → x < n
+set_below n xs is x h =
+    let i = In-filter_gives (has_member xs) (range_with_len 0 n) x (subst (λ l. In l x) is (has_gives xs x h)) in
+    let b = In-range_gives 0 n x i.0 in
+    omega (arith, b.1)
+
+-- numbers that don't pass may be added to a range
+pub filter_longer : (t : ℕ → Bool) (n k : ℕ) → ((x : ℕ) → n ≤ x → t x ≡ false) → filter t (range_with_len 0 (n + k)) ≡ filter t (range_with_len 0 n)
+filter_longer t n zero h = ap (λ m. filter t (range_with_len 0 m)) (let e : n + 0 ≡ n = omega arith in e)
+filter_longer t n (suc k) h =
+    let e : n + suc k ≡ n + k + 1 = omega arith in
+    ap (λ m. filter t (range_with_len 0 m)) e ∙ filter_more t (n + k) ∙ ap (λ v. filter t (range_with_len 0 (n + k)) ++ cond v ((n + k) ∷ []) []) (h (n + k) (omega arith))
+    ∙ append-nil (filter t (range_with_len 0 (n + k))) ∙ filter_longer t n k h
+
+pub not_member : (xs : List ℕ) (x : ℕ) → (has_member xs x ≡ true → ⊥) → has_member xs x ≡ false
+not_member xs x h = go (has_member xs x) h
+  where
+    go : (v : Bool) → (v ≡ true → ⊥) → v ≡ false
+    go true h = absurd (h refl)
+    go false h = refl
+
+pub set_longer : (n m : ℕ) (xs : List ℕ) → n ≤ m → IsSet n xs → IsSet m xs
+set_longer n m xs l is =
+    let e : m ≡ n + (m - n) = omega arith in
+    is ∙ sym (filter_longer (has_member xs) n (m - n) (λ x k. not_member xs x (λ h. let b = set_below n xs is x h in absurd (omega arith)))) ∙ ap (λ k. filter (has_member xs) (range_with_len 0 k)) (sym e)
+
+range_put_from : (a n : ℕ) → with_member (a + n) (range_with_len a n) ≡ range_with_len a (n + 1)
+range_put_from a zero = let e : a + 0 ≡ a = omega arith in rw e refl
+range_put_from a (suc n) =
+    let less : ltb (a + suc n) a ≡ false = grind (arith, tests) in
+    let other : eqb (a + suc n) a ≡ false = grind (arith, tests) in
+    let next : a + suc n ≡ a + 1 + n = omega arith in
+    let more : suc n + 1 ≡ suc (n + 1) = omega arith in
+    rw (less, other, more) (ap (λ l. a ∷ l) (ap (λ k. with_member k (range_with_len (a + 1) n)) next ∙ range_put_from (a + 1) n))
+
+-- the numbers below n, and one more
+pub range_put : (n : ℕ) → with_member n (range_with_len 0 n) ≡ range_with_len 0 (n + 1)
+range_put n = let e : 0 + n ≡ n = omega arith in ap (λ k. with_member k (range_with_len 0 n)) (sym e) ∙ range_put_from 0 n
+
+pub filter_none : (t : ℕ → Bool) (a n : ℕ) → ((k : ℕ) → a ≤ k → t k ≡ false) → filter t (range_with_len a n) ≡ []
+filter_none t a zero h = refl
+filter_none t a (suc n) h = rw (h a (omega arith)) (filter_none t (a + 1) n (λ k l. h k (omega arith)))
+
+pub filter_all : (t : ℕ → Bool) (a n : ℕ) → ((k : ℕ) → a ≤ k → k < a + n → t k ≡ true) → filter t (range_with_len a n) ≡ range_with_len a n
+filter_all t a zero h = refl
+filter_all t a (suc n) h = rw (h a (omega arith) (omega arith)) (ap (λ l. a ∷ l) (filter_all t (a + 1) n (λ k l m. h k (omega arith) (omega arith))))
+
+pub in_range : (n x : ℕ) → x < n → has_member (range_with_len 0 n) x ≡ true
+in_range n x l = has_from (range_with_len 0 n) x (In-range 0 n x (omega arith) (omega arith))
+
+pub zero_set : (n : ℕ) → 0 < n → IsSet n (0 ∷ [])
+zero_set zero h = absurd (omega arith)
+zero_set (suc n) h = ap (λ l. 0 ∷ l) (sym (filter_none (has_member (0 ∷ [])) 1 n (λ k l. alone k l)))
+  where
+    alone : (k : ℕ) → 1 ≤ k → has_member (0 ∷ []) k ≡ false
+    alone k l = let e : eqb 0 k ≡ false = grind (arith, tests) in rw e refl
+
+-- a test of the members of a set, as one of the numbers below its bound
+pub any_of_set : (t : ℕ → Bool) (n : ℕ) (set : List ℕ) → ((x : ℕ) → has_member set x ≡ true → x < n) → list_any t set ≡ any_below (λ x. has_member set x && t x) n
+any_of_set t n set below =
+    same_tests (list_any t set) (any_below (λ x. has_member set x && t x) n)
+    (λ h. let r = any_gives t set h in let m = has_from set r.0 r.1 in any_below_from (λ x. has_member set x && t x) n r.0 (below r.0 m) (and_from (has_member set r.0) (t r.0) m r.2))
+    (λ h. let r = any_found (λ x. has_member set x && t x) n h in let b = and_parts (has_member set r.0) (t r.0) r.2 in any_from t set r.0 (has_gives set r.0 b.0) b.1)

@@ -1,0 +1,2 @@
+pub mod BitComparisons
+pub mod MemberBits
