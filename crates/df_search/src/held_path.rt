@@ -8,7 +8,7 @@ ghost use Rattle.df_search.specs.HeldPaths.{as_entry, TurnsTo};
 use crate::OutOfMemory;
 use crate::divisors_start::divisors_start;
 use df_steps::Steps;
-use df_system::{Partial, System};
+use df_system::{MOST_ENTRIES, Partial, System};
 use df_walk::Rules;
 use std::alloc::Global;
 use std::marker::Model;
@@ -70,7 +70,7 @@ impl<'m> HeldPath<'m> {
     pub(crate) fn length(&self) -> u32
         ensures value { result ≡ length self.now.path }
         ensures within { result ≤ length self.now.system.columns }
-        ensures few { length self.now.system.columns ≤ 16777216 }
+        ensures few { length self.now.system.columns ≤ MOST_ENTRIES }
         ensures system { IsSystem self.now.system }
     {
         self.length
