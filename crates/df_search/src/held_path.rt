@@ -1,3 +1,6 @@
+// The one path that a search holds, as decisions of a `Partial` and as a list with no for all columns past it, so that a solution is read off without a copy.
+// A path grows and loses its columns at its end: each step decides or takes back one column and costs its cells.
+// What the rules say of the path is read off the partial assignment; only a residue is looked for row by row, and only from the column on from which some row can have one.
 ghost use Rattle.std.specs.Prelude.{◌≡◌, ℕ, ◌+◌, ◌-◌, ◌*◌, ◌<◌, ◌≤◌, [], ◌∷◌, ◌++◌, length, replicate, Some, None, IsNone, IfOk, IfSome, Bool, true, false};
 ghost use Rattle.df_walk.specs.Systems.{IsSystem, entries, target, widest};
 ghost use Rattle.df_walk.specs.Assignments.{taken, divisor, is_over, is_settled, has_residue, least_over, least_row, least_residue};

@@ -1,3 +1,6 @@
+// The walk through the tree of paths, one entry at a time, with the place in it as one path and a state: at the path, below it or past it.
+// It goes back late, with the call that asks for the next entry: so the answer's path stays held, as its solution and its place, and a call costs at most three decisions more than its path grows shorter.
+// A call passes one entry: `advance` gives it, and `next` passes them up to a solution or up to a node that the budget doesn't allow.
 ghost use Rattle.std.specs.Prelude.{◌≡◌, ℕ, ◌+◌, ◌-◌, ◌*◌, ◌<◌, ◌≤◌, [], ◌∷◌, ◌++◌, length, Some, None, IfOk, IfErr, IsSome, IsNone, IfSome, Bool, true, false, ◌==◌};
 ghost use Rattle.std.specs.List.{list_any};
 ghost use Rattle.std.specs.List.Sorted.{IsStrictlyIncreasing};

@@ -1,6 +1,7 @@
 // A caller of a search that rests on its clauses alone: after each answer it asks what that answer allows.
 ghost use Rattle.std.specs.Prelude.{◌≡◌, [], ◌∷◌, IfOk};
 ghost use Rattle.df_walk.specs.Paths.{path_of, rest, load};
+ghost use Rattle.df_walk.specs.Remains.{remaining};
 ghost use Rattle.df_walk.specs.Solutions.{solutions};
 ghost use Rattle.df_search.specs.declared.Event.TheVariants as event;
 ghost use Rattle.df_search.specs.declared.Turn.TheVariants as turn;
@@ -54,6 +55,7 @@ pub(crate) fn ask_advance<L: Ledger>(
 ) -> Result<Event, OutOfMemory>
     ensures solution { IfOk result (λ e. e ≡ event.Solution → rest_solutions search.old ≡ asked.new.items ∷ rest_solutions search.new) }
     ensures place { IfOk result (λ e. e ≡ event.Spent → rest_solutions search.old ≡ rest search.new.system asked.new.items) }
+    ensures entries { IfOk result (λ e. e ≡ event.Spent → search.new.rest ≡ remaining search.new.rules search.new.system asked.new.items) }
     ensures load { IfOk result (λ e. e ≡ event.Spent → rest_nodes search.old ≡ load search.new.rules search.new.system asked.new.items) }
     ensures end { IfOk result (λ e. e ≡ event.Finished → rest_solutions search.old ≡ []) }
 {
@@ -81,6 +83,7 @@ pub(crate) fn ask_next<L: Ledger>(
 ) -> Result<Turn, OutOfMemory>
     ensures solution { IfOk result (λ t. t ≡ turn.Design → rest_solutions search.old ≡ asked.new.items ∷ rest_solutions search.new) }
     ensures place { IfOk result (λ t. t ≡ turn.Spent → rest_solutions search.old ≡ rest search.new.system asked.new.items) }
+    ensures entries { IfOk result (λ t. t ≡ turn.Spent → search.new.rest ≡ remaining search.new.rules search.new.system asked.new.items) }
     ensures load { IfOk result (λ t. t ≡ turn.Spent → rest_nodes search.new ≡ load search.new.rules search.new.system asked.new.items) }
     ensures end { IfOk result (λ t. t ≡ turn.Finished → rest_solutions search.old ≡ []) }
 {
