@@ -1,6 +1,7 @@
 //! Lists of maps that act on things of one kind: the classes that they make, the earliest members, and the counts over two kinds.
 //! It stands on df_lists and has no code that runs: each public function has an empty body, and its contract is a law.
-//! The crates above cite the words of its specs/ and the lemmas of its proofs/.
+//! The crates above cite the words of its specs/ and its laws.
+//! Laws for the rooms above: proofs/ClassLaws, proofs/EarliestLaws, proofs/ImageLaws, proofs/OntoLists, proofs/StabilizerLaws.
 #![tactic(auto)]
 
 ghost use Rattle.std.specs.Prelude.{ℕ};

@@ -9,7 +9,7 @@ use Rattle.df_group.proofs.GeneratedSets.{generated_none, generated_whole}
 use Rattle.df_subsets.specs.Subsets.{same_list}
 use Rattle.df_acting.specs.Classes.{IsMapGroup, IsSpread}
 use Rattle.df_acting.proofs.ImageLaws.{image_group}
-use Rattle.df_acting.proofs.SpreadLaws.{subsets_spread, candidates_spread}
+use Rattle.df_maps.proofs.SpreadLaws.{subsets_spread, candidates_spread}
 use Rattle.df_maps.specs.FullMaps.{full_maps, image, carried}
 use Rattle.df_maps.specs.Laws.{MapsAreMade, MapsAreGroups, AreGroup}
 use Rattle.df_lang.specs.declared.parts.Which.{Which}

@@ -10,15 +10,18 @@ use Rattle.df_subsets.specs.Subsets.{choose, subsets}
 use Rattle.df_lists.specs.Orders.{IsOrder, IsSorted}
 use Rattle.df_lists.proofs.MemberLaws.{In-append_cases, In-map_gives}
 use Rattle.df_subsets.proofs.SubsetLists.{choose_inside}
+use Rattle.df_lists.proofs.SortedLists.{sorted-append, sorted-map}
 
 before_unlike : (a : List ℕ) → before a a ≡ false
 before_unlike [] = refl
+
 before_unlike (p ∷ a) = rw (le-ltb p p (omega arith), eq-eqb p p refl) (before_unlike a)
 
 before_onward : (a b c : List ℕ) → before a b ≡ true → before b c ≡ true → before a c ≡ true
 before_onward a b [] h k = absurd (false≢true k)
 before_onward a [] (r ∷ c) h k = absurd (false≢true h)
 before_onward [] (q ∷ b) (r ∷ c) h k = refl
+
 before_onward (p ∷ a) (q ∷ b) (r ∷ c) h k = go (or_cases (ltb p q) (eqb p q && before a b) h) (or_cases (ltb q r) (eqb q r && before b c) k) (before_onward a b c)
   where
     go : (ltb p q ≡ true) ⊎ ((eqb p q && before a b) ≡ true) → (ltb q r ≡ true) ⊎ ((eqb q r && before b c) ≡ true) → (before a b ≡ true → before b c ≡ true → before a c ≡ true) → (ltb p r || (eqb p r && before a c)) ≡ true
@@ -33,7 +36,9 @@ before_onward (p ∷ a) (q ∷ b) (r ∷ c) h k = go (or_cases (ltb p q) (eqb p 
 before_either : (a b : List ℕ) → before a b ≡ false → before b a ≡ false → a ≡ b
 before_either [] [] h k = refl
 before_either [] (q ∷ b) h k = absurd (false≢true (sym h))
+
 before_either (p ∷ a) [] h k = absurd (false≢true (sym k))
+
 before_either (p ∷ a) (q ∷ b) h k = go (cases_order p q) (before_either a b)
   where
     go : (p ≡ q) ⊎ ((p < q) ⊎ (q < p)) → (before a b ≡ false → before b a ≡ false → a ≡ b) → p ∷ a ≡ q ∷ b
@@ -48,21 +53,15 @@ lists_ordered = record { unlike = before_unlike; onward = before_onward; either 
 pub before_is : (a b : List ℕ) → before a b ≡ is_lt (slice_cmp nat_cmp a b)
 before_is [] [] = refl
 before_is [] (q ∷ b) = refl
+
 before_is (p ∷ a) [] = refl
+
 before_is (p ∷ a) (q ∷ b) = go (cases_order p q) (before_is a b)
   where
     go : (p ≡ q) ⊎ ((p < q) ⊎ (q < p)) → before a b ≡ is_lt (slice_cmp nat_cmp a b) → before (p ∷ a) (q ∷ b) ≡ is_lt (slice_cmp nat_cmp (p ∷ a) (q ∷ b))
     go (inl e) ih = rw (le-ltb p q (omega arith), eq-eqb p q e) ih
     go (inr (inl l)) ih = rw (lt-ltb p q l) refl
     go (inr (inr l)) ih = rw (le-ltb p q (omega arith), ne_eqb p q (λ e. absurd (omega (arith, e, l)))) refl
-
-pub sorted-append : {X : Type 0} (earlier : X → X → Bool) (xs ys : List X) → IsSorted earlier xs → IsSorted earlier ys → ((x y : X) → In xs x → In ys y → earlier x y ≡ true) → IsSorted earlier (xs ++ ys)
-sorted-append earlier [] ys s t h = t
-sorted-append earlier (x ∷ xs) ys s t h = (λ y i. ⊎_elim (λ j. s.0 y j) (λ j. h x y (inl refl) j) (In-append_cases xs ys y i), sorted-append earlier xs ys s.1 t (λ z y i j. h z y (inr i) j))
-
-pub sorted-map : {X Y : Type 0} (earlier : X → X → Bool) (sooner : Y → Y → Bool) (f : X → Y) (xs : List X) → ((x y : X) → earlier x y ≡ true → sooner (f x) (f y) ≡ true) → IsSorted earlier xs → IsSorted sooner (map f xs)
-sorted-map earlier sooner f [] h s = tt
-sorted-map earlier sooner f (x ∷ xs) h s = (λ y i. let r = In-map_gives f xs y i in subst (λ z. sooner (f x) z ≡ true) r.2 (h x r.0 (s.0 r.0 r.1)), sorted-map earlier sooner f xs h s.1)
 
 pub choose_sorted : (low n k : ℕ) → IsSorted before (choose (range_with_len low n) k)
 choose_sorted low n zero = (λ y i. absurd i, tt)
