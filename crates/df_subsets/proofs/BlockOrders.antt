@@ -14,14 +14,12 @@ use Rattle.df_lists.proofs.SortedLists.{sorted-append, sorted-map}
 
 before_unlike : (a : List ℕ) → before a a ≡ false
 before_unlike [] = refl
-
 before_unlike (p ∷ a) = rw (le-ltb p p (omega arith), eq-eqb p p refl) (before_unlike a)
 
 before_onward : (a b c : List ℕ) → before a b ≡ true → before b c ≡ true → before a c ≡ true
 before_onward a b [] h k = absurd (false≢true k)
 before_onward a [] (r ∷ c) h k = absurd (false≢true h)
 before_onward [] (q ∷ b) (r ∷ c) h k = refl
-
 before_onward (p ∷ a) (q ∷ b) (r ∷ c) h k = go (or_cases (ltb p q) (eqb p q && before a b) h) (or_cases (ltb q r) (eqb q r && before b c) k) (before_onward a b c)
   where
     go : (ltb p q ≡ true) ⊎ ((eqb p q && before a b) ≡ true) → (ltb q r ≡ true) ⊎ ((eqb q r && before b c) ≡ true) → (before a b ≡ true → before b c ≡ true → before a c ≡ true) → (ltb p r || (eqb p r && before a c)) ≡ true
@@ -36,9 +34,7 @@ before_onward (p ∷ a) (q ∷ b) (r ∷ c) h k = go (or_cases (ltb p q) (eqb p 
 before_either : (a b : List ℕ) → before a b ≡ false → before b a ≡ false → a ≡ b
 before_either [] [] h k = refl
 before_either [] (q ∷ b) h k = absurd (false≢true (sym h))
-
 before_either (p ∷ a) [] h k = absurd (false≢true (sym k))
-
 before_either (p ∷ a) (q ∷ b) h k = go (cases_order p q) (before_either a b)
   where
     go : (p ≡ q) ⊎ ((p < q) ⊎ (q < p)) → (before a b ≡ false → before b a ≡ false → a ≡ b) → p ∷ a ≡ q ∷ b
@@ -53,9 +49,7 @@ lists_ordered = record { unlike = before_unlike; onward = before_onward; either 
 pub before_is : (a b : List ℕ) → before a b ≡ is_lt (slice_cmp nat_cmp a b)
 before_is [] [] = refl
 before_is [] (q ∷ b) = refl
-
 before_is (p ∷ a) [] = refl
-
 before_is (p ∷ a) (q ∷ b) = go (cases_order p q) (before_is a b)
   where
     go : (p ≡ q) ⊎ ((p < q) ⊎ (q < p)) → before a b ≡ is_lt (slice_cmp nat_cmp a b) → before (p ∷ a) (q ∷ b) ≡ is_lt (slice_cmp nat_cmp (p ∷ a) (q ∷ b))

@@ -28,13 +28,9 @@ pub stands : (n low v k : ℕ) (b d : List ℕ) → low + n ≡ v → Rises low 
 stands zero low v zero [] d w r e = (omega arith, λ i h. let z : i ≡ 0 = omega (arith, h) in ap (λ i. get_or ([] ∷ []) i d) z)
 stands zero low v (suc k) [] d w r e = absurd (omega arith)
 stands zero low v k (p ∷ b) d w r e = absurd (omega (arith, r.0, r.1))
-
 stands (suc n) low v zero [] d w r e = (omega arith, λ i h. let z : i ≡ 0 = omega (arith, h) in ap (λ i. get_or ([] ∷ []) i d) z)
-
 stands (suc n) low v (suc k) [] d w r e = absurd (omega arith)
-
 stands (suc n) low v zero (p ∷ b) d w r e = absurd (omega arith)
-
 stands (suc n) low v (suc k) (p ∷ b) d w r e =
     ⊎_elim
     (λ s. here s (stands n (low + 1) v k b d (omega arith) (Rises-wider (low + 1) (p + 1) v v b (omega arith) (omega arith) r.2) (omega arith)))
@@ -72,9 +68,7 @@ stands (suc n) low v (suc k) (p ∷ b) d w r e =
 -- in a sorted list each member stands first at its place
 place_at : (xs : List (List ℕ)) (i : ℕ) (d : List ℕ) → IsSorted before xs → i < length xs → place_of (get_or xs i d) xs ≡ i
 place_at [] i d s h = absurd (omega arith)
-
 place_at (x ∷ xs) zero d s h = rw (same_list-self x) refl
-
 place_at (x ∷ xs) (suc i) d s h =
     let y = get_or xs i d in
     let differs : same_list y x ≡ false = ⊎_elim (λ t. absurd (both_ways (before x x) (lists_ordered.unlike x) (subst (λ z. before x z ≡ true) (same_list-gives y x t) (s.0 y (In-get_or xs i d (omega arith)))))) (λ f. f) (cases_Bool (same_list y x)) in

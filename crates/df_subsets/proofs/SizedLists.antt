@@ -14,7 +14,6 @@ use Rattle.df_lists.proofs.SortedLists.{sorted-append, sorted-map, sorted-filter
 
 some_point : (ps : List ℕ) (b : List ℕ) → In (nonempty ps) b → 0 < length b
 some_point [] b i = absurd i
-
 some_point (p ∷ ps) b i = ⊎_elim (λ j. let r = In-map_gives (λ c. p ∷ c) ([] ∷ nonempty ps) b j in subst (λ c. 0 < length c) r.2 (omega arith)) (λ j. some_point ps b j) (In-append_cases (map (λ c. p ∷ c) ([] ∷ nonempty ps)) (nonempty ps) b i)
 
 eqb-suc : (a b : ℕ) → eqb (suc a) (suc b) ≡ eqb a b
@@ -24,7 +23,6 @@ eqb-suc a b = same_tests (eqb (suc a) (suc b)) (eqb a b) (λ h. let e = eqb-true
 pub choose_is : (ps : List ℕ) (k : ℕ) → choose ps k ≡ filter (λ b. eqb k (length b)) ([] ∷ nonempty ps)
 choose_is ps zero = sym (ap (λ l. [] ∷ l) (filter_fails (λ b. eqb 0 (length b)) (nonempty ps) (λ b i. let h = some_point ps b i in ne_eqb 0 (length b) (omega (arith, h)))))
 choose_is [] (suc k) = rw (ne_eqb (suc k) 0 (λ e. absurd (omega (arith, e)))) refl
-
 choose_is (p ∷ ps) (suc k) =
     let two = filter-append (λ b. eqb (suc k) (length b)) (map (λ c. p ∷ c) ([] ∷ nonempty ps)) (nonempty ps) in
     let one = filter-map (λ b. eqb (suc k) (length b)) (λ c. p ∷ c) ([] ∷ nonempty ps) ∙ ap (map (λ c. p ∷ c)) (filter_agree (λ c. eqb (suc k) (suc (length c))) (λ c. eqb k (length c)) ([] ∷ nonempty ps) (λ c i. eqb-suc k (length c))) in
