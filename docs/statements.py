@@ -7,13 +7,13 @@ First the citations of lemmas of another crate that isn't among that crate's law
 head of its src/lib.rt (or src/main.rt): `//! Laws for the rooms above: proofs/ONE, proofs/TWO.` A citation is a `use` line
 of a file of specs/, proofs/ or src/ that brings names from `Rattle.CRATE.proofs.FILE` of another crate of the repository.
 
-Then the statements that stand in two crates or more: the types of the lemmas in proofs/, public or not, with their bound
-variables renamed in the order in which they come. Lemmas inside a function or a `where` aren't looked at.
+Then the statements that stand in two crates or more: the types of the lemmas in proofs/, public or not, and definitions with
+their clauses, with the bound variables renamed in the order in which they come. Lemmas inside a `where` aren't looked at.
 """
 import collections, pathlib, re, sys
 
 TOP = pathlib.Path("crates")
-DECLARED = re.compile(r"^(?:abbrev |unfoldable )?(?:pub )?([^\s(){}:]+) : (.+)$")
+DECLARED = re.compile(r"^(abbrev |unfoldable )?(?:pub )?([^\s(){}:]+) : (.+)$")
 TOKEN = re.compile(r"[(){}\[\],;.]|[^\s(){}\[\],;.]+(?:\.[^\s(){}\[\],;.]+)*")
 
 
@@ -108,12 +108,16 @@ def statements(path):
         if found is None or (line.startswith(" ") and not inside):
             i += 1
             continue
-        name, text, start = found.group(1), found.group(2), i + 1
+        defined, name, text, start = found.group(1), found.group(2), found.group(3), i + 1
         margin = "    " if inside else "  "
         i += 1
         while i < len(lines) and lines[i].startswith(margin) and not lines[i].lstrip().startswith(("--", "where")):
             text += " " + lines[i].strip()
             i += 1
+        if defined:
+            while i < len(lines) and lines[i].strip().startswith(name + " "):
+                text += " | " + re.sub(rf"(?<!\S){re.escape(name)}(?!\S)", "self", lines[i].strip())
+                i += 1
         if not text.startswith("goal.") and name not in ("use", "record", "module"):
             yield name, start, (telescope if inside else "") + text
 

@@ -1,4 +1,4 @@
--- Each map permutes a list that the maps don't lead out of, and what follows for classes and for counts over two of them.
+-- Each map permutes a list that the maps don't lead out of, and what follows for orbits and for counts over two of them.
 use Rattle.std.proofs.Common.{◌≡◌, ℕ, ◌*◌, Bool, true, false, ◌&&◌, List, refl, sym, ap, ◌∙◌, subst, arith, mul-one, mul_comm}
 use Rattle.df_lists.specs.Membership.{In, count}
 use Rattle.df_lists.specs.Totals.{one}
@@ -44,7 +44,7 @@ module _ {M X : Type 0} (eq : X → X → Bool) (act : M → X → X) (D : X →
           list_total_agree (λ x. one (eq (act g x) y) * one (t y)) (λ x. one (eq (act back.0 y) x) * one (t y)) xs (λ x k. ap (λ b. one b * one (t y)) (turned x y k j))
           ∙ total_one xs S (λ x. one (t y)) (act back.0 y) (S.moves back.0 back.1 y j)
 
-  -- classes
+  -- orbits
   pub class_from : (g : M) (x y : X) → In maps g → act g x ≡ y → in_one_class eq act maps x y ≡ true
   class_from g x y i e = any_from (λ f. eq (act f x) y) maps g i (rw e (E.self y))
 
@@ -54,7 +54,7 @@ module _ {M X : Type 0} (eq : X → X → Bool) (act : M → X → X) (D : X →
   pub class_self : (x : X) → D x → in_one_class eq act maps x x ≡ true
   class_self x d = let e = G.one in class_from e.0 x x e.1 (e.2 x d)
 
-  -- the class of an image is the class
+  -- the orbit of an image is the orbit
   pub class_image : (g : M) (x y : X) → In maps g → D x → in_one_class eq act maps (act g x) y ≡ in_one_class eq act maps x y
   class_image g x y i d =
       same_tests (in_one_class eq act maps (act g x) y) (in_one_class eq act maps x y)
@@ -68,7 +68,7 @@ module _ {M X : Type 0} (eq : X → X → Bool) (act : M → X → X) (D : X →
   class_comm x y d k = same_tests (in_one_class eq act maps x y) (in_one_class eq act maps y x) (λ h. class_same x y x d h ∙ class_self x d) (λ h. class_same y x y k h ∙ class_self y k)
 
   module _ (holds : X → X → Bool) (K : (g : M) → In maps g → (b p : X) → D b → D p → holds (act g b) (act g p) ≡ holds b p) where
-    -- the entry is the same for each pair of a class
+    -- the entry is the same for each pair of an orbit
     entry_image : (blocks : List X) → IsSpread eq act D maps blocks → (g : M) (x y : X) → In maps g → D x → entry eq act maps holds blocks (act g x) y ≡ entry eq act maps holds blocks x y
     entry_image blocks S g x y i d =
         permutes blocks S (λ b. in_one_class eq act maps b y && holds b (act g x)) g i
@@ -85,7 +85,7 @@ module _ {M X : Type 0} (eq : X → X → Bool) (act : M → X → X) (D : X →
     pub held_class : (pairs : List X) → IsSpread eq act D maps pairs → (x y z : X) → D y → in_one_class eq act maps y z ≡ true → held eq act maps holds pairs x z ≡ held eq act maps holds pairs x y
     held_class pairs S x y z d h = let g = class_gives y z h in subst (λ w. held eq act maps holds pairs x w ≡ held eq act maps holds pairs x y) g.2 (held_image pairs S g.0 x y g.1 d)
 
-    -- a row's entry over its whole class
+    -- a row's entry over its whole orbit
     rows_total : (pairs blocks : List X) → IsSpread eq act D maps pairs → IsSpread eq act D maps blocks → (x y : X) → D x → list_total (λ p. one (in_one_class eq act maps p x) * entry eq act maps holds blocks p y) pairs ≡ entry eq act maps holds blocks x y * count (λ p. in_one_class eq act maps p x) pairs
     rows_total pairs blocks S T x y d =
         list_total_agree (λ p. one (in_one_class eq act maps p x) * entry eq act maps holds blocks p y) (λ p. entry eq act maps holds blocks x y * one (in_one_class eq act maps p x)) pairs
@@ -100,7 +100,7 @@ module _ {M X : Type 0} (eq : X → X → Bool) (act : M → X → X) (D : X →
         ∙ list_total_times (held eq act maps holds pairs x y) (λ b. one (in_one_class eq act maps b y)) blocks
         ∙ ap (λ n. held eq act maps holds pairs x y * n) (sym (count_total (λ b. in_one_class eq act maps b y) blocks))
 
-    -- the pairs of a class in the blocks of a class, counted by pairs and by blocks
+    -- the pairs of an orbit in the blocks of an orbit, counted by pairs and by blocks
     both_ways : (pairs blocks : List X) (x y : X) → list_total (λ p. one (in_one_class eq act maps p x) * entry eq act maps holds blocks p y) pairs ≡ list_total (λ b. one (in_one_class eq act maps b y) * held eq act maps holds pairs x b) blocks
     both_ways pairs blocks x y =
         list_total_agree (λ p. one (in_one_class eq act maps p x) * entry eq act maps holds blocks p y) (λ p. list_total (λ b. met p b) blocks) pairs

@@ -1,4 +1,4 @@
--- Each class has one earliest member, and where marks find it.
+-- Each orbit has one earliest member, and where marks find it.
 use Rattle.std.proofs.Common.{◌≡◌, Bool, true, false, not, cond, ◌++◌, map, List, [], ◌∷◌, refl, sym, ap, ap₂, ◌∙◌, subst, inl, inr, ⊎_elim, append_assoc}
 use Rattle.std.proofs.lemmas.Bool.{both_ways, not-true, not_from_false, false_from_ne_true, false≢true}
 use Rattle.std.specs.List.{list_any}
@@ -74,7 +74,7 @@ module _ {M X : Type 0} (eq : X → X → Bool) (act : M → X → X) (D : X →
           let h = G.times g f.0 i f.1 in
           subst (λ w. before w (earliest_image before act maps x) ≡ false) (h.2 x d ∙ ap (act g) f.2) (earliest_first before O x (map (λ g. act g x) maps) (act h.0 x) (inr (In-map (λ g. act g x) maps h.0 h.1)))
 
-  -- a class has no second one
+  -- an orbit has no second one
   pub least_once : (x y : X) → D x → D y → in_one_class eq act maps x y ≡ true → is_earliest before act maps x ≡ true → is_earliest before act maps y ≡ true → x ≡ y
   least_once x y d k h l m =
       let g = class_gives eq act D maps E G x y h in
@@ -101,7 +101,7 @@ module _ {M X : Type 0} (eq : X → X → Bool) (act : M → X → X) (D : X →
           let c = class_comm eq act D maps E G (earliest_image before act maps y) y (at y k) k ∙ least_same y k in
           sym (class_same eq act D maps E G x (earliest_image before act maps y) y d b) ∙ c
 
-  -- marks: in a sorted list that the maps don't leave, a member is the earliest of its class exactly where no member before it is of its class
+  -- marks: in a sorted list that the maps don't leave, a member is the earliest of its orbit exactly where no member before it is of its orbit
   pub least_unmarked : (done rest : List X) (x : X) → IsSorted before (done ++ x ∷ rest) → IsSpread eq act D maps (done ++ x ∷ rest) → is_earliest before act maps x ≡ not (list_any (λ d. in_one_class eq act maps d x) done)
   least_unmarked done rest x sorted S = same_tests (is_earliest before act maps x) (not (list_any (λ d. in_one_class eq act maps d x) done)) one_way other_way
     where

@@ -12,38 +12,7 @@ use Rattle.df_acting.specs.Classes.{IsMapGroup, IsSpread}
 use Rattle.df_acting.specs.Images.{image, holds}
 use Rattle.df_lists.proofs.TestLaws.{same_tests, all_from, all_gives, filter_agree, map_agree, map_fixed, has_from, has_gives}
 use Rattle.df_acting.proofs.ClassLaws.{permutes}
-
-pub In-points : (v p : ℕ) → p < v → In (range_with_len 0 v) p
-In-points v p h = In-range 0 v p (omega arith) (omega arith)
-
-pub In-points_gives : (v p : ℕ) → In (range_with_len 0 v) p → p < v
-In-points_gives v p i = let r = In-range_gives 0 v p i in omega (arith, r.1)
-
--- what a test picks from the points is a set of points
-pub filter_is_set : (t : ℕ → Bool) (v : ℕ) → IsSet v (filter t (range_with_len 0 v))
-filter_is_set t v = filter_agree t (has_member (filter t (range_with_len 0 v))) (range_with_len 0 v) (λ p i. sym (has_filter t v p (In-points_gives v p i)))
-
--- the members of a set lie below its bound
-pub In-set : (v : ℕ) (b : List ℕ) (p : ℕ) → IsSet v b → In b p → p < v
-In-set v b p is i = In-points_gives v p (In-filter_gives (has_member b) (range_with_len 0 v) p (subst (λ l. In l p) is i)).0
-
--- a set is told by its members
-pub sets_agree : (v : ℕ) (a b : List ℕ) → IsSet v a → IsSet v b → ((p : ℕ) → In a p → In b p) → ((p : ℕ) → In b p → In a p) → a ≡ b
-sets_agree v a b s t f g =
-    s ∙ filter_agree (has_member a) (has_member b) (range_with_len 0 v) (λ p i. same_tests (has_member a p) (has_member b p) (λ h. has_from b p (f p (has_gives a p h))) (λ h. has_from a p (g p (has_gives b p h)))) ∙ sym t
-
-pub range_once : (a n p : ℕ) → a ≤ p → p < a + n → count (eqb p) (range_with_len a n) ≡ 1
-range_once a zero p h k = absurd (omega arith)
-range_once a (suc n) p h k = ⊎_elim (λ e. here e) (λ ne. there ne (range_once (a + 1) n p (omega arith) (omega arith))) (cases_eq p a)
-  where
-    here : p ≡ a → count (eqb p) (a ∷ range_with_len (a + 1) n) ≡ 1
-    here e = rw (eq-eqb p a e) (ap suc (count_none (eqb p) (range_with_len (a + 1) n) (λ q i. let r = In-range_gives (a + 1) n q i in ne_eqb p q (omega (arith, r.0)))))
-
-    there : (p ≡ a → ⊥) → count (eqb p) (range_with_len (a + 1) n) ≡ 1 → count (eqb p) (a ∷ range_with_len (a + 1) n) ≡ 1
-    there ne more = rw (ne_eqb p a ne) more
-
-pub numbers_equal : IsEquality eqb
-numbers_equal = record { same = eqb-true; self = λ x. eq-eqb x x refl }
+pub use Rattle.df_lists.proofs.SetLaws.{In-points, In-points_gives, filter_is_set, In-set, sets_agree, range_once, numbers_equal}
 
 -- the image under one function
 abbrev pub image_by : ℕ → (ℕ → ℕ) → List ℕ → List ℕ

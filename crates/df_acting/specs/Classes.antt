@@ -1,4 +1,4 @@
--- Lists of maps that act on things of one kind, and the classes that they make.
+-- Lists of maps that act on things of one kind, and the orbits that they make.
 use Rattle.std.specs.Prelude.{◌≡◌, ℕ, Bool, true, ◌&&◌, List}
 use Rattle.std.specs.List.{list_any}
 use Rattle.df_lists.specs.Membership.{In, count}
@@ -16,14 +16,14 @@ pub record IsSpread {M X : Type 0} (eq : X → X → Bool) (act : M → X → X)
   pub once : (x : X) → In xs x → count (eq x) xs ≡ 1
   pub moves : (g : M) → In maps g → (x : X) → In xs x → In xs (act g x)
 
--- two things are in one class where a map carries one to the other
+-- two things are in one orbit where a map carries one to the other
 abbrev pub in_one_class : {M X : Type 0} → (X → X → Bool) → (M → X → X) → List M → X → X → Bool
 in_one_class eq act maps x y = list_any (λ g. eq (act g x) y) maps
 
--- how many of the blocks are in the class of y and hold x
+-- how many of the blocks are in the orbit of y and hold x
 abbrev pub entry : {M X : Type 0} → (X → X → Bool) → (M → X → X) → List M → (X → X → Bool) → List X → X → X → ℕ
 entry eq act maps holds blocks x y = count (λ b. in_one_class eq act maps b y && holds b x) blocks
 
--- how many of the pairs are in the class of x and lie in y
+-- how many of the pairs are in the orbit of x and lie in y
 abbrev pub held : {M X : Type 0} → (X → X → Bool) → (M → X → X) → List M → (X → X → Bool) → List X → X → X → ℕ
 held eq act maps holds pairs x y = count (λ p. in_one_class eq act maps p x && holds y p) pairs

@@ -1,4 +1,4 @@
--- The earliest members of classes.
+-- The earliest members of orbits.
 use Rattle.std.specs.Prelude.{Bool, not, List, [], ◌∷◌, map, filter, if◌then◌else◌}
 use Rattle.std.specs.List.{list_all}
 
@@ -15,6 +15,6 @@ earliest before x (y ∷ ys) = earliest before (if before y x then y else x) ys
 abbrev pub earliest_image : {M X : Type 0} → (X → X → Bool) → (M → X → X) → List M → X → X
 earliest_image before act maps x = earliest before x (map (λ g. act g x) maps)
 
--- those of the list that are the earliest of their class
+-- those of the list that are the earliest of their orbit
 abbrev pub earliest_members : {M X : Type 0} → (X → X → Bool) → (M → X → X) → List M → List X → List X
 earliest_members before act maps xs = filter (is_earliest before act maps) xs

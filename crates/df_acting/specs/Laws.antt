@@ -17,7 +17,7 @@ pub record AreMoved {M : Type 0} (act : M → ℕ → ℕ) (v : ℕ) (maps : Lis
 abbrev pub ImagesAreMoved : Type 0 → Type 0
 ImagesAreMoved M = (act : M → ℕ → ℕ) (v : ℕ) (maps : List M) → IsMapGroup act (λ p. p < v) maps → AreMoved act v maps
 
--- the earliest image is in the class and no image of it is earlier, no other member of the class is like that, and two things have one earliest image exactly where they are in one class
+-- the earliest image is in the orbit and no image of it is earlier, no other member of the orbit is like that, and two things have one earliest image exactly where they are in one orbit
 pub record IsOnlyEarliest {M X : Type 0} (eq before : X → X → Bool) (act : M → X → X) (D : X → Type 0) (maps : List M) : Type 0 where
   pub of_class : (x : X) → D x → in_one_class eq act maps x (earliest_image before act maps x) ≡ true
   pub earliest : (x : X) → D x → is_earliest before act maps (earliest_image before act maps x) ≡ true
@@ -27,7 +27,7 @@ pub record IsOnlyEarliest {M X : Type 0} (eq before : X → X → Bool) (act : M
 abbrev pub EarliestAreOne : Type 0 → Type 0
 EarliestAreOne M = (eq before : List ℕ → List ℕ → Bool) (act : M → List ℕ → List ℕ) (v : ℕ) (maps : List M) → IsEquality eq → IsOrder before → IsMapGroup act (IsSet v) maps → IsOnlyEarliest eq before act (IsSet v) maps
 
--- the counts of one class in the members of another
+-- the counts of one orbit in the members of another
 pub record AreQuotients {M X : Type 0} (eq holds : X → X → Bool) (act : M → X → X) (maps : List M) (pairs blocks : List X) (x y : X) : Type 0 where
   pub product : entry eq act maps holds blocks x y * count (λ p. in_one_class eq act maps p x) pairs ≡ count (λ b. in_one_class eq act maps b y) blocks * held eq act maps holds pairs x y
   pub same : (z : X) → in_one_class eq act maps x z ≡ true → entry eq act maps holds blocks z y ≡ entry eq act maps holds blocks x y

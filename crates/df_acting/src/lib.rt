@@ -1,6 +1,7 @@
-//! Lists of maps that act on things of one kind: the classes that they make, the earliest members, and the counts over two kinds.
+//! Lists of maps that act on things of one kind: the orbits that they make, the earliest members, and the counts over two kinds.
 //! It stands on df_lists and has no code that runs: each public function has an empty body, and its contract is a law.
-//! The crates above cite the words of its specs/ and the lemmas of its proofs/.
+//! The crates above cite the words of its specs/ and its laws.
+//! Laws for the rooms above: proofs/ClassLaws, proofs/EarliestLaws, proofs/ImageLaws, proofs/OntoLists, proofs/StabilizerLaws.
 #![tactic(auto)]
 
 ghost use Rattle.std.specs.Prelude.{ℕ};
@@ -11,13 +12,13 @@ pub fn images_are_moved()
     ensures { ImagesAreMoved (ℕ × ℕ) }
 {}
 
-/// Each class has one earliest member: the earliest image of each of its members.
+/// Each orbit has one earliest member: the earliest image of each of its members.
 pub fn earliest_are_one()
     ensures { EarliestAreOne (ℕ × ℕ) }
 {}
 
-/// The number of blocks of one class that hold x, times the size of the class of x, is the size of that class of blocks times the number of things of the class of x in one of them.
-/// The number is the same for all of the class of x.
+/// The number of blocks of one orbit that hold x, times the size of the orbit of x, is the size of that orbit of blocks times the number of things of the orbit of x in one of them.
+/// The number is the same for all of the orbit of x.
 pub fn entries_are_quotients()
     ensures { EntriesAreQuotients (ℕ × ℕ) }
 {}

@@ -18,22 +18,9 @@ use Rattle.df_group.proofs.ElementLaws.{is_group}
 use Rattle.df_group.proofs.GroupLaws.{turns_less, minus_minus, less_more}
 use Rattle.df_group.proofs.SumLaws.{sum_tail, sum_within, sum_generator, sum_plus, sum_minus, sum_least, sum_among}
 use Rattle.df_group.proofs.GeneratedSets.{generated_set, generated_none, generated_turn, sum_member, member_sum}
-
--- sizes as totals
-pub size_total : (t : ℕ → Bool) (n : ℕ) → length (filter t (range_with_len 0 n)) ≡ total (λ i. one (t i)) n
-size_total t zero = refl
-size_total t (suc n) =
-    let e : suc n ≡ n + 1 = omega arith in
-    ap (λ m. length (filter t (range_with_len 0 m))) e ∙ ap length (filter_more t n) ∙ length-append (filter t (range_with_len 0 n)) (cond (t n) (n ∷ []) [])
-    ∙ rw (size_total t n) (ap (λ k. total (λ i. one (t i)) n + k) (last (t n)))
-  where
-    last : (v : Bool) → length (cond v (n ∷ []) []) ≡ one v
-    last true = refl
-    last false = refl
-
-pub total_within : (f g : ℕ → ℕ) (n : ℕ) → ((i : ℕ) → i < n → f i ≤ g i) → total f n ≤ total g n
-total_within f g zero h = omega arith
-total_within f g (suc n) h = let a = total_within f g n (λ i l. h i (omega arith)) in let b = h n (omega arith) in omega arith
+use Rattle.df_lists.proofs.CountLaws.{length_picked}
+use Rattle.df_lists.proofs.ListPlaces.{In-get_or}
+use Rattle.df_lists.proofs.TotalLaws.{total_within}
 
 ones_within : (t : ℕ → Bool) (n : ℕ) → total (λ i. one (t i)) n ≤ n
 ones_within t zero = omega arith
@@ -44,15 +31,10 @@ pub record AreTaken (fs taken : List ℕ) : Type 0 where
   pub below : (g : ℕ) → In taken g → g < order_of fs
   pub doubled : 2 ^ length taken ≤ length (generated fs taken)
 
-In-place : (xs : List ℕ) (k d : ℕ) → k < length xs → In xs (get_or xs k d)
-In-place [] k d l = absurd (omega arith)
-In-place (x ∷ xs) zero d l = inl refl
-In-place (x ∷ xs) (suc k) d l = inr (In-place xs k d (omega arith))
-
 module _ (fs : List ℕ) (is : IsShape fs) where
   pub generated_size : (gs : List ℕ) → length (generated fs gs) ≡ total (λ i. one (has_member (sums fs gs) i)) (order_of fs)
   unfolding generated
-  generated_size gs = size_total (has_member (sums fs gs)) (order_of fs)
+  generated_size gs = length_picked (has_member (sums fs gs)) (order_of fs)
 
   pub generated_within : (gs : List ℕ) → length (generated fs gs) ≤ order_of fs
   generated_within gs = omega (arith, generated_size gs, ones_within (has_member (sums fs gs)) (order_of fs))
@@ -188,7 +170,7 @@ module _ (fs : List ℕ) (is : IsShape fs) where
 
   -- the same by places
   pub taken_below : (taken : List ℕ) → AreTaken fs taken → All (λ g. g < order_of fs) taken
-  taken_below taken are k d l = are.below (get_or taken k d) (In-place taken k d l)
+  taken_below taken are k d l = are.below (get_or taken k d) (In-get_or taken k d l)
 
   -- one more generator still fits
   pub taken_fewer : (taken : List ℕ) (e : ℕ) → AreTaken fs taken → e < order_of fs → has_member (generated fs taken) e ≡ false → length taken < 7

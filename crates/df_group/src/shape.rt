@@ -1,4 +1,8 @@
 // The factors of a group, and its elements by their numbers.
+//
+// An element is its number alone, so that a set of elements is a set of numbers and an image takes one byte; its residues are
+// found where they are asked for. The factors are judged once, in `new`, and what was found stays with them as the type's
+// invariant, beside the order and the exponent, which the other calls need. No call takes memory.
 ghost use Rattle.std.specs.Prelude.{◌≡◌, ◌<◌, ◌≤◌, ◌+◌, ◌*◌, ◌%◌, ℕ, length, All, MatchBool, MatchOption, MatchResult, IfNone, IfSome, Some, None};
 ghost use Rattle.std.specs.List.{position};
 ghost use Rattle.df_group.specs.Elements.{order_of, group_of, minus, number, residues, IsElement, IsFactor, IsShape};
@@ -9,7 +13,7 @@ use crate::{places, residues};
 use arrayvec::ArrayVec;
 use std::marker::Model;
 
-/// Why a list of numbers isn't the list of factors of a group, in the order in which the causes are told.
+/// Why a list of numbers isn't the list of factors of a group, in the order in which the causes are reported.
 #[derive(Clone, Copy, Debug, PartialEq, Eq)]
 pub enum ShapeError {
     /// The list is empty.

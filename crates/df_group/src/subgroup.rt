@@ -1,4 +1,9 @@
 // Subgroups, as sets of elements.
+//
+// A subgroup is kept as the set of its members, so a look takes one step, whatever the generators were. It is generated one
+// generator after the other: one that is in already adds nothing, and of another one the cosets by its multiples are put in, up
+// to the first multiple that is in already. So each member is put in once: a subgroup of n members takes n sums, beside a look for
+// each generator. A generator that isn't in at least doubles the subgroup, so at most seven count.
 ghost use Rattle.std.specs.Prelude.{◌≡◌, ◌==◌, ◌<◌, ◌≤◌, ℕ, ◌&&◌, ◌||◌, List, [], ◌∷◌, All, length, nat_eq};
 ghost use Rattle.std.specs.List.{range_with_len};
 ghost use Rattle.std.specs.Cmp.Lexicographic.{pointwise, lists_per, lists_equiv};

@@ -12,7 +12,7 @@ use Rattle.df_acting.specs.Classes.{IsSpread}
 use Rattle.df_acting.specs.Earliest.{is_earliest}
 use Rattle.df_acting.proofs.ClassLaws.{class_same}
 use Rattle.df_acting.proofs.EarliestLaws.{least_once}
-use Rattle.df_acting.proofs.SpreadLaws.{lists_equal}
+use Rattle.df_maps.proofs.SpreadLaws.{lists_equal}
 use Rattle.df_maps.specs.FullMaps.{MapGroup, full_maps, image}
 use Rattle.df_maps.specs.Laws.{AreGroup}
 use Rattle.df_maps.proofs.ProductLaws.{count_most}

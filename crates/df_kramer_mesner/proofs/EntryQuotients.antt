@@ -8,7 +8,7 @@ use Rattle.df_subsets.specs.Subsets.{same_list}
 use Rattle.df_acting.specs.Images.{holds}
 use Rattle.df_acting.proofs.ClassLaws.{class_self, entry_law, entry_class}
 use Rattle.df_acting.proofs.ImageLaws.{holds_kept}
-use Rattle.df_acting.proofs.SpreadLaws.{lists_equal}
+use Rattle.df_maps.proofs.SpreadLaws.{lists_equal}
 use Rattle.df_maps.specs.FullMaps.{full_maps, image, carried}
 use Rattle.df_maps.specs.Laws.{AreGroup}
 use Rattle.df_lang.specs.Problems.{Stated, point_count}

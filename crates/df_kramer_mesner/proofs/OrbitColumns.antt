@@ -16,7 +16,7 @@ use Rattle.df_acting.specs.Images.{holds}
 use Rattle.df_acting.proofs.ClassLaws.{class_self, entry_class}
 use Rattle.df_acting.proofs.EarliestLaws.{least_gives, least_same, least_least}
 use Rattle.df_acting.proofs.ImageLaws.{holds_kept}
-use Rattle.df_acting.proofs.SpreadLaws.{lists_equal}
+use Rattle.df_maps.proofs.SpreadLaws.{lists_equal}
 use Rattle.df_maps.specs.FullMaps.{MapGroup, full_maps, image, carried}
 use Rattle.df_maps.specs.Laws.{AreGroup}
 use Rattle.df_walk.specs.Systems.{IsColumn, IsSystem}

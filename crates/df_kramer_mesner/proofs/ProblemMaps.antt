@@ -5,11 +5,11 @@ use Rattle.df_lists.specs.Membership.{In}
 use Rattle.df_lists.specs.NumberSets.{IsSet}
 use Rattle.df_group.specs.Elements.{order_of}
 use Rattle.df_group.specs.Subgroups.{IsSubgroup}
-use Rattle.df_group.proofs.GeneratedSets.{generated_none, generated_whole}
+use Rattle.df_group.proofs.SubgroupLaws.{are_subgroups}
 use Rattle.df_subsets.specs.Subsets.{same_list}
 use Rattle.df_acting.specs.Classes.{IsMapGroup, IsSpread}
 use Rattle.df_acting.proofs.ImageLaws.{image_group}
-use Rattle.df_acting.proofs.SpreadLaws.{subsets_spread, candidates_spread}
+use Rattle.df_maps.proofs.SpreadLaws.{subsets_spread, candidates_spread}
 use Rattle.df_maps.specs.FullMaps.{full_maps, image, carried}
 use Rattle.df_maps.specs.Laws.{MapsAreMade, MapsAreGroups, AreGroup}
 use Rattle.df_lang.specs.declared.parts.Which.{Which}
@@ -26,8 +26,8 @@ all_members P (y ∷ ys) all x (inr i) = all_members P ys (λ k d l. all (suc k)
 
 -- what a word of a statement names is a subgroup
 pub word_subgroup : (s : Stated) → IsStated s → (word : Which) → IsWord s.names word → IsSubgroup s.group (subgroup_at s word)
-word_subgroup s is which.All h = (range_with_len 0 (order_of s.group), generated_whole s.group is.shape)
-word_subgroup s is which.Trivial h = ([], generated_none s.group is.shape)
+word_subgroup s is which.All h = (range_with_len 0 (order_of s.group), (are_subgroups s.group is.shape).whole)
+word_subgroup s is which.Trivial h = ([], (are_subgroups s.group is.shape).trivial)
 word_subgroup s is (which.Named i) h = (is.names i ([], []) h).subgroup
 
 pub problem_group : MapsAreMade → MapsAreGroups → (s : Stated) → IsStated s → AreGroup (maps_of_problem s)

@@ -1,5 +1,5 @@
 -- Counts and sums over lists, and lists that a test picks from a range.
-use Rattle.std.proofs.Common.{◌≡◌, ℕ, zero, suc, ◌+◌, ◌<◌, ◌≤◌, Bool, true, false, cond, eqb, ◌&&◌, List, [], ◌∷◌, ◌++◌, filter, map, refl, sym, ap, ◌∙◌, inl, inr, arith, tests}
+use Rattle.std.proofs.Common.{◌≡◌, ℕ, zero, suc, ◌+◌, ◌<◌, ◌≤◌, Bool, true, false, cond, eqb, ◌&&◌, List, [], ◌∷◌, ◌++◌, filter, map, refl, sym, ap, ◌∙◌, inl, inr, arith, tests, length}
 use Rattle.std.specs.List.{range_with_len, flat_map, count_by, sum_by, list_any}
 use Rattle.std.proofs.lemmas.Bool.{cases_lt, eqb-true}
 use Rattle.std.proofs.Math.Bool.{and-true}
@@ -7,6 +7,7 @@ use Rattle.std.proofs.lemmas.Map.Views.{any-filter_same}
 use Rattle.std.proofs.lemmas.List.{map-id}
 use Rattle.std.proofs.lemmas.List.Elements.{filter-append}
 use Rattle.std.proofs.lemmas.List.FromFn.{map-range_with_len_more}
+use Rattle.std.proofs.lemmas.List.Sums.{length-filter}
 use Rattle.std.proofs.lemmas.List.Recursion.{is_count_by, is_sum_by}
 use Rattle.df_lists.specs.NumberSets.{has_member}
 use Rattle.df_lists.specs.Totals.{total, one}
@@ -87,3 +88,7 @@ pub has_filter : (t : ℕ → Bool) (n p : ℕ) → p < n → has_member (filter
 has_filter t n p h =
     any-filter_same (λ q. eqb q p) t (t p) (λ k e. ap t (eqb-true k p e)) (range_with_len 0 n)
     ∙ ap (λ v. t p && v) (any_here p 0 n (omega arith) (omega arith)) ∙ and-true (t p)
+
+-- how many numbers below n a test picks
+pub length_picked : (t : ℕ → Bool) (n : ℕ) → length (filter t (range_with_len 0 n)) ≡ total (λ i. one (t i)) n
+length_picked t n = length-filter t (range_with_len 0 n) ∙ sym (cb_is t (range_with_len 0 n)) ∙ cb_range t n

@@ -1,11 +1,13 @@
 pub mod BitLaws
 pub mod CountLaws
 pub mod LeastLaws
+pub mod ListPlaces
 pub mod ListTotals
 pub mod MemberLaws
 pub mod OntoMaps
 pub mod RangeLaws
 pub mod RisingLists
 pub mod SetLaws
+pub mod SortedLists
 pub mod TestLaws
 pub mod TotalLaws

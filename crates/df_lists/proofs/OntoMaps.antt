@@ -3,7 +3,7 @@ use Rattle.std.proofs.Common.{◌≡◌, ℕ, zero, suc, ◌+◌, ◌<◌, ◌�
 use Rattle.std.proofs.lemmas.Bool.{cases_lt, eqb-true}
 use Rattle.df_lists.specs.Totals.{total, one}
 use Rattle.df_lists.specs.LeastMembers.{OntoLaw}
-use Rattle.df_lists.proofs.TotalLaws.{total_same, total_zero, total_swap, total_at}
+use Rattle.df_lists.proofs.TotalLaws.{total_same, total_zero, total_ones, total_swap, total_at}
 use Rattle.df_lists.proofs.LeastLaws.{first_of}
 
 total_most : (c : ℕ → ℕ) (n : ℕ) → ((j : ℕ) → j < n → c j ≤ 1) → total c n ≤ n
@@ -31,10 +31,6 @@ total_once t (suc n) h = go (t n) refl (total_once t n (λ i j l m. h i j (omega
     go true e ih = let a = total_same (λ i. one (t i)) (λ i. 0) n (λ i l. none e i l (t i) refl) ∙ total_zero n in omega arith
     go false e ih = omega arith
 
-ones : (n : ℕ) → total (λ i. 1) n ≡ n
-ones zero = refl
-ones (suc n) = let ih = ones n in omega arith
-
 pub onto : OntoLaw
 onto n f within apart j l =
     elim (first_of (λ i. eqb j (f i)) n) [
@@ -44,6 +40,6 @@ onto n f within apart j l =
           let gap : c j ≡ 0 = total_same (λ i. cond (eqb j (f i)) 1 0) (λ i. 0) n (λ i h. ap one (none i h)) ∙ total_zero n in
           let less = total_gap c n j (λ k h. total_once (λ i. eqb k (f i)) n (λ a b u v d e. apart a b u v (sym (eqb-true k (f a) d) ∙ eqb-true k (f b) e))) l gap in
           let all : total c n ≡ total (λ i. 1) n = sym (total_swap (λ i j. cond (eqb j (f i)) 1 0) n n) ∙ total_same (λ i. total (λ j. cond (eqb j (f i)) 1 0) n) (λ i. 1) n (λ i h. total_at (λ j. 1) (f i) n (within i h)) in
-          let k = ones n in
+          let k = total_ones n in
           absurd (omega arith)
     ]

@@ -1,5 +1,5 @@
 -- Lists that rise strictly: their members, one member more, other bounds.
-use Rattle.std.proofs.Common.{◌≡◌, ℕ, suc, zero, ◌+◌, ◌<◌, ◌≤◌, Bool, true, false, cond, ◌||◌, List, [], ◌∷◌, length, filter, refl, sym, ap, ◌∙◌, inl, inr, ◌⊎◌, arith, eqb, eq-eqb, ne_eqb, lt-ltb, le-ltb}
+use Rattle.std.proofs.Common.{◌≡◌, ℕ, suc, zero, ◌+◌, ◌<◌, ◌≤◌, Bool, true, false, cond, ◌||◌, List, [], ◌∷◌, length, filter, refl, sym, ap, ◌∙◌, inl, inr, ◌⊎◌, arith, eqb, eq-eqb, ne_eqb, lt-ltb, le-ltb, get_or}
 use Rattle.std.proofs.lemmas.Bool.{cases_order}
 use Rattle.std.specs.List.{range_with_len}
 use Rattle.df_lists.specs.Membership.{In}
@@ -76,3 +76,8 @@ Rises-bound low v (q ∷ b) p r (inr i) = Rises-bound (q + 1) v b p r.2 i
 pub length_fits : (low v : ℕ) (b : List ℕ) → low ≤ v → Rises low v b → low + length b ≤ v
 length_fits low v [] h r = omega arith
 length_fits low v (p ∷ b) h r = let ih = length_fits (p + 1) v b (omega (arith, r.1)) r.2 in omega (arith, ih, r.0)
+
+pub point_below : (low v : ℕ) (b : List ℕ) (i d : ℕ) → Rises low v b → i < length b → get_or b i d < v
+point_below low v [] i d r h = absurd (omega arith)
+point_below low v (p ∷ b) zero d r h = r.1
+point_below low v (p ∷ b) (suc i) d r h = point_below (p + 1) v b i d r.2 (omega arith)

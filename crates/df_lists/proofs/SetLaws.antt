@@ -1,15 +1,18 @@
 -- Sets of numbers as increasing lists: told by their members, made by a test, of a larger bound.
-use Rattle.std.proofs.Common.{◌≡◌, ℕ, zero, suc, ◌+◌, ◌-◌, ◌<◌, ◌≤◌, Bool, true, false, cond, eqb, ltb, ◌&&◌, List, [], ◌∷◌, ◌++◌, filter, refl, sym, ap, ◌∙◌, subst, arith, tests, append-nil}
+use Rattle.std.proofs.Common.{◌≡◌, ℕ, zero, suc, ◌+◌, ◌-◌, ◌<◌, ◌≤◌, Bool, true, false, cond, eqb, ltb, ◌&&◌, List, [], ◌∷◌, ◌++◌, filter, refl, sym, ap, ◌∙◌, subst, arith, tests, append-nil, length, eq-eqb, ne_eqb, eqb-true, ⊎_elim}
 use Rattle.std.specs.List.{range_with_len, list_any}
-use Rattle.std.proofs.lemmas.Bool.{and_from, and_parts}
-use Rattle.df_lists.specs.Membership.{In}
+use Rattle.std.proofs.lemmas.Bool.{and_from, and_parts, cases_eq}
+use Rattle.df_lists.specs.Membership.{In, count}
 use Rattle.df_lists.specs.LeastMembers.{any_below}
 use Rattle.df_lists.specs.NumberSets.{has_member, with_member, IsSet}
 use Rattle.df_lists.proofs.CountLaws.{filter_same, has_filter}
-use Rattle.df_lists.proofs.MemberLaws.{In-filter_gives, In-range, In-range_gives}
+use Rattle.df_lists.proofs.MemberLaws.{In-filter_gives, In-range, In-range_gives, count_none}
 use Rattle.df_lists.proofs.RangeLaws.{filter_more}
 use Rattle.df_lists.proofs.LeastLaws.{any_from as any_below_from, any_found}
-use Rattle.df_lists.proofs.TestLaws.{same_tests, any_from, any_gives, has_from, has_gives}
+use Rattle.df_lists.proofs.TestLaws.{same_tests, any_from, any_gives, has_from, has_gives, filter_agree}
+use Rattle.std.proofs.lemmas.List.FromFn.{length-range_with_len}
+use Rattle.df_lists.specs.Orders.{IsEquality}
+use Rattle.df_lists.proofs.ListTotals.{count_whole}
 
 -- a list is told by its members
 pub same_sets : (n : ℕ) (xs ys : List ℕ) → IsSet n xs → IsSet n ys → ((x : ℕ) → x < n → has_member xs x ≡ has_member ys x) → xs ≡ ys
@@ -81,3 +84,35 @@ any_of_set t n set below =
     same_tests (list_any t set) (any_below (λ x. has_member set x && t x) n)
     (λ h. let r = any_gives t set h in let m = has_from set r.0 r.1 in any_below_from (λ x. has_member set x && t x) n r.0 (below r.0 m) (and_from (has_member set r.0) (t r.0) m r.2))
     (λ h. let r = any_found (λ x. has_member set x && t x) n h in let b = and_parts (has_member set r.0) (t r.0) r.2 in any_from t set r.0 (has_gives set r.0 b.0) b.1)
+
+-- a set of numbers below n has n members at most
+pub set_long : (n : ℕ) (set : List ℕ) → IsSet n set → length set ≤ n
+set_long n set is = let e = ap length is in omega (arith, e, count_whole (has_member set) (range_with_len 0 n), length-range_with_len 0 n)
+
+pub In-points : (v p : ℕ) → p < v → In (range_with_len 0 v) p
+In-points v p h = In-range 0 v p (omega arith) (omega arith)
+
+pub In-points_gives : (v p : ℕ) → In (range_with_len 0 v) p → p < v
+In-points_gives v p i = let r = In-range_gives 0 v p i in omega (arith, r.1)
+
+-- the members of a set lie below its bound
+pub In-set : (v : ℕ) (b : List ℕ) (p : ℕ) → IsSet v b → In b p → p < v
+In-set v b p is i = In-points_gives v p (In-filter_gives (has_member b) (range_with_len 0 v) p (subst (λ l. In l p) is i)).0
+
+-- a set is told by its members
+pub sets_agree : (v : ℕ) (a b : List ℕ) → IsSet v a → IsSet v b → ((p : ℕ) → In a p → In b p) → ((p : ℕ) → In b p → In a p) → a ≡ b
+sets_agree v a b s t f g =
+    s ∙ filter_agree (has_member a) (has_member b) (range_with_len 0 v) (λ p i. same_tests (has_member a p) (has_member b p) (λ h. has_from b p (f p (has_gives a p h))) (λ h. has_from a p (g p (has_gives b p h)))) ∙ sym t
+
+pub range_once : (a n p : ℕ) → a ≤ p → p < a + n → count (eqb p) (range_with_len a n) ≡ 1
+range_once a zero p h k = absurd (omega arith)
+range_once a (suc n) p h k = ⊎_elim (λ e. here e) (λ ne. there ne (range_once (a + 1) n p (omega arith) (omega arith))) (cases_eq p a)
+  where
+    here : p ≡ a → count (eqb p) (a ∷ range_with_len (a + 1) n) ≡ 1
+    here e = rw (eq-eqb p a e) (ap suc (count_none (eqb p) (range_with_len (a + 1) n) (λ q i. let r = In-range_gives (a + 1) n q i in ne_eqb p q (omega (arith, r.0)))))
+
+    there : (p ≡ a → ⊥) → count (eqb p) (range_with_len (a + 1) n) ≡ 1 → count (eqb p) (a ∷ range_with_len (a + 1) n) ≡ 1
+    there ne more = rw (ne_eqb p a ne) more
+
+pub numbers_equal : IsEquality eqb
+numbers_equal = record { same = eqb-true; self = λ x. eq-eqb x x refl }

@@ -1,5 +1,5 @@
--- Tests over the members of lists.
-use Rattle.std.proofs.Common.{◌≡◌, ℕ, Bool, true, false, List, [], ◌∷◌, map, filter, refl, sym, ap, ◌∙◌, subst, inl, inr, ◌⊎◌, eqb, eq-eqb, eqb-true}
+-- Tests over the members of lists, and what a test picks.
+use Rattle.std.proofs.Common.{◌≡◌, ℕ, Bool, true, false, cond, ◌&&◌, List, [], ◌∷◌, map, filter, refl, sym, ap, ◌∙◌, subst, inl, inr, ◌⊎◌, eqb, eq-eqb, eqb-true}
 use Rattle.std.specs.List.{list_any, list_all}
 use Rattle.std.proofs.lemmas.Bool.{false≢true, or_cases, or_left, or_right, and_parts, and_from}
 use Rattle.df_lists.specs.Membership.{In}
@@ -51,3 +51,23 @@ has_from b p i = any_from (λ q. eqb q p) b p i (eq-eqb p p refl)
 
 pub has_gives : (b : List ℕ) (p : ℕ) → has_member b p ≡ true → In b p
 has_gives b p h = let r = any_gives (λ q. eqb q p) b h in subst (In b) (eqb-true r.0 p r.2) r.1
+
+pub filter-filter : {X : Type 0} (q p : X → Bool) (xs : List X) → filter q (filter p xs) ≡ filter (λ x. p x && q x) xs
+filter-filter q p [] = refl
+filter-filter q p (x ∷ xs) =
+    elim (p x) as (λ b. filter q (cond b (x ∷ filter p xs) (filter p xs)) ≡ cond (b && q x) (x ∷ filter (λ x. p x && q x) xs) (filter (λ x. p x && q x) xs)) [
+      | true ↦ ap (λ l. cond (q x) (x ∷ l) l) (filter-filter q p xs)
+      | false ↦ filter-filter q p xs
+    ]
+
+pub filter-map : {X Y : Type 0} (p : Y → Bool) (f : X → Y) (xs : List X) → filter p (map f xs) ≡ map f (filter (λ x. p (f x)) xs)
+filter-map p f [] = refl
+filter-map p f (x ∷ xs) =
+    elim (p (f x)) as (λ b. cond b (f x ∷ filter p (map f xs)) (filter p (map f xs)) ≡ map f (cond b (x ∷ filter (λ x. p (f x)) xs) (filter (λ x. p (f x)) xs))) [
+      | true ↦ ap (λ l. f x ∷ l) (filter-map p f xs)
+      | false ↦ filter-map p f xs
+    ]
+
+pub filter_fails : {X : Type 0} (t : X → Bool) (xs : List X) → ((x : X) → In xs x → t x ≡ false) → filter t xs ≡ []
+filter_fails t [] h = refl
+filter_fails t (x ∷ xs) h = rw (h x (inl refl)) (filter_fails t xs (λ y i. h y (inr i)))

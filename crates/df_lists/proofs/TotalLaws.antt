@@ -20,6 +20,14 @@ pub total_times : (f : ℕ → ℕ) (c n : ℕ) → total (λ i. c * f i) n ≡ 
 total_times f c zero = omega arith
 total_times f c (suc n) = let a = total_times f c n in omega arith
 
+pub total_ones : (n : ℕ) → total (λ i. 1) n ≡ n
+total_ones zero = refl
+total_ones (suc n) = let a = total_ones n in omega arith
+
+pub total_within : (f g : ℕ → ℕ) (n : ℕ) → ((i : ℕ) → i < n → f i ≤ g i) → total f n ≤ total g n
+total_within f g zero h = omega arith
+total_within f g (suc n) h = let a = total_within f g n (λ i l. h i (omega arith)) in let b = h n (omega arith) in omega arith
+
 -- the order of two sums
 pub total_swap : (f : ℕ → ℕ → ℕ) (n m : ℕ) → total (λ i. total (f i) m) n ≡ total (λ j. total (λ i. f i j) n) m
 total_swap f zero m = sym (total_zero m)

@@ -1,6 +1,8 @@
 //! Sums, counts, sets of numbers, least members: the words on lists that several crates share, with their laws.
 //! It stands on std alone and has no code that runs: each public function has an empty body, and its contract is a law.
-//! The crates above cite the words of its specs/ and the lemmas of its proofs/.
+//! The crates above cite the words of its specs/ and its laws.
+//! Laws for the rooms above: proofs/BitLaws, proofs/CountLaws, proofs/LeastLaws, proofs/ListPlaces, proofs/ListTotals,
+//! proofs/MemberLaws, proofs/RangeLaws, proofs/RisingLists, proofs/SetLaws, proofs/SortedLists, proofs/TestLaws, proofs/TotalLaws.
 #![tactic(auto)]
 
 ghost use Rattle.df_lists.specs.Totals.{TotalsSwap, TotalsTurn};

@@ -11,5 +11,6 @@ pub mod MarkSteps
 pub mod NumberLaws
 pub mod ProductLaws
 pub mod SetLists
+pub mod SpreadLaws
 pub mod SubgroupSums
 pub mod TurnLaws

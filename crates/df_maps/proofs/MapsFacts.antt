@@ -7,7 +7,7 @@ use Rattle.df_maps.specs.FullMaps.{MapGroup, IsMaps, full_maps, map_number, carr
 use Rattle.df_subsets.specs.Subsets.{subsets, same_list}
 use Rattle.df_subsets.proofs.BlockLaws.{set_is_block}
 use Rattle.df_subsets.proofs.SubsetLists.{subsets_have}
-use Rattle.df_acting.proofs.SpreadLaws.{lists_equal, subsets_spread}
+use Rattle.df_maps.proofs.SpreadLaws.{lists_equal, subsets_spread}
 use Rattle.df_maps.proofs.TurnLaws.{orbit_size}
 use Rattle.df_maps.specs.Laws.{AreGroup}
 use Rattle.df_maps.proofs.GroupOfMaps.{group, numbered, identity, carried_one, number_in, some_shift}

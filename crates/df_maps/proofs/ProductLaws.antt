@@ -12,57 +12,15 @@ use Rattle.df_lists.proofs.TestLaws.{any_from, any_gives, has_from, has_gives}
 use Rattle.df_acting.proofs.ImageLaws.{In-points, In-points_gives, filter_is_set}
 use Rattle.df_maps.specs.Products.{product_of, AllIn, products_within, products, AreProducts}
 use Rattle.std.proofs.lemmas.Nat.{mul-mod_second}
-
-pub In-flat_map : {X Y : Type 0} (f : X → List Y) (xs : List X) (x : X) (y : Y) → In xs x → In (f x) y → In (flat_map f xs) y
-In-flat_map f [] x y i j = absurd i
-In-flat_map f (z ∷ xs) x y (inl e) j = In-append_left (f z) (flat_map f xs) y (subst (λ w. In (f w) y) (sym e) j)
-In-flat_map f (z ∷ xs) x y (inr i) j = In-append_right (f z) (flat_map f xs) y (In-flat_map f xs x y i j)
-
-pub In-flat_map_gives : {X Y : Type 0} (f : X → List Y) (xs : List X) (y : Y) → In (flat_map f xs) y → (x : X) × In xs x × In (f x) y
-In-flat_map_gives f [] y i = absurd i
-In-flat_map_gives f (z ∷ xs) y i =
-    ⊎_elim (λ j. (z, inl refl, j)) (λ j. let r = In-flat_map_gives f xs y j in (r.0, inr r.1, r.2)) (In-append_cases (f z) (flat_map f xs) y i)
+pub use Rattle.df_lists.proofs.ListTotals.{count_most, count_less}
+pub use Rattle.df_lists.proofs.MemberLaws.{In-flat_map, In-flat_map_gives}
+pub use Rattle.df_lists.proofs.SetLaws.{set_long}
 
 pub In-set_of : (v : ℕ) (xs : List ℕ) (r : ℕ) → r < v → In xs r → In (set_of v xs) r
 In-set_of v xs r h i = In-filter (has_member xs) (range_with_len 0 v) r (In-points v r h) (has_from xs r i)
 
 pub In-set_of_gives : (v : ℕ) (xs : List ℕ) (r : ℕ) → In (set_of v xs) r → (r < v) × In xs r
 In-set_of_gives v xs r i = let h = In-filter_gives (has_member xs) (range_with_len 0 v) r i in (In-points_gives v r h.0, has_gives xs r h.1)
-
--- a test that passes less often
-one_most : (a b : Bool) → (a ≡ true → b ≡ true) → one a ≤ one b
-one_most false b h = omega arith
-one_most true b h = rw (h refl) (omega arith)
-
-total_most : {X : Type 0} (f g : X → ℕ) (xs : List X) → ((x : X) → In xs x → f x ≤ g x) → list_total f xs ≤ list_total g xs
-total_most f g [] h = omega arith
-total_most f g (x ∷ xs) h = omega (arith, h x (inl refl), total_most f g xs (λ y i. h y (inr i)))
-
-total_less : {X : Type 0} (f g : X → ℕ) (xs : List X) (x : X) → ((x : X) → In xs x → f x ≤ g x) → In xs x → f x < g x → list_total f xs < list_total g xs
-total_less f g [] x h i l = absurd i
-total_less f g (y ∷ xs) x h (inl e) l =
-    let here : f y < g y = subst (λ w. f w < g w) (sym e) l in
-    omega (arith, here, total_most f g xs (λ z i. h z (inr i)))
-total_less f g (y ∷ xs) x h (inr i) l = omega (arith, h y (inl refl), total_less f g xs x (λ z j. h z (inr j)) i l)
-
-pub count_most : {X : Type 0} (s t : X → Bool) (xs : List X) → ((x : X) → In xs x → s x ≡ true → t x ≡ true) → count s xs ≤ count t xs
-count_most s t xs h = omega (arith, count_total s xs, count_total t xs, total_most (λ x. one (s x)) (λ x. one (t x)) xs (λ x i. one_most (s x) (t x) (h x i)))
-
-pub count_less : {X : Type 0} (s t : X → Bool) (xs : List X) (x : X) → ((x : X) → In xs x → s x ≡ true → t x ≡ true) → In xs x → s x ≡ false → t x ≡ true → count s xs < count t xs
-count_less s t xs x h i e f =
-    let here : one (s x) < one (t x) = rw (e, f) (omega arith) in
-    omega (arith, count_total s xs, count_total t xs, total_less (λ x. one (s x)) (λ x. one (t x)) xs x (λ y j. one_most (s y) (t y) (h y j)) i here)
-
-count_whole : {X : Type 0} (t : X → Bool) (xs : List X) → count t xs ≤ length xs
-count_whole t xs = let e = all_pass xs in omega (arith, e, count_most t (λ x. true) xs (λ x i h. refl))
-  where
-    all_pass : {X : Type 0} (xs : List X) → count (λ x. true) xs ≡ length xs
-    all_pass [] = refl
-    all_pass (x ∷ xs) = ap suc (all_pass xs)
-
--- a set of numbers below v has v members at most, and a set that lacks one of another's has fewer
-pub set_long : (v : ℕ) (b : List ℕ) → IsSet v b → length b ≤ v
-set_long v b is = let e = ap length is in omega (arith, e, count_whole (has_member b) (range_with_len 0 v), length-range_with_len 0 v)
 
 pub set_less : (v : ℕ) (a b : List ℕ) (p : ℕ) → IsSet v a → IsSet v b → ((q : ℕ) → In a q → In b q) → In b p → has_member a p ≡ false → length a < length b
 set_less v a b p s t h i out =

@@ -9,14 +9,8 @@ use Rattle.df_lists.proofs.MemberLaws.{In-filter_gives, In-range_gives}
 use Rattle.df_lists.specs.Orders.{IsSorted}
 use Rattle.df_lists.proofs.TestLaws.{filter_agree, has_from}
 use Rattle.df_acting.proofs.ImageLaws.{range_once, In-set}
-
-pub filter-filter : {X : Type 0} (q p : X → Bool) (xs : List X) → filter q (filter p xs) ≡ filter (λ x. p x && q x) xs
-filter-filter q p [] = refl
-filter-filter {X = X} q p (x ∷ xs) = go (p x) (filter-filter q p xs)
-  where
-    go : (b : Bool) → filter q (filter p xs) ≡ filter (λ x. p x && q x) xs → filter q (cond b (x ∷ filter p xs) (filter p xs)) ≡ cond (b && q x) (x ∷ filter (λ x. p x && q x) xs) (filter (λ x. p x && q x) xs)
-    go true ih = ap (λ l. cond (q x) (x ∷ l) l) ih
-    go false ih = ih
+pub use Rattle.df_lists.proofs.ListPlaces.{In-get_or}
+pub use Rattle.df_lists.proofs.TestLaws.{filter-filter}
 
 -- a member stands in the list once
 pub set_once : (v : ℕ) (b : List ℕ) (p : ℕ) → IsSet v b → In b p → count (eqb p) b ≡ 1
@@ -47,16 +41,14 @@ filter_sorted t a (suc n) =
 pub set_sorted : (v : ℕ) (b : List ℕ) → IsSet v b → IsSorted ltb b
 set_sorted v b is = subst (IsSorted ltb) (sym is) (filter_sorted (has_member b) 0 v)
 
-pub In-get_or : {X : Type 0} (xs : List X) (i : ℕ) (d : X) → i < length xs → In xs (get_or xs i d)
-In-get_or [] i d h = absurd (omega arith)
-In-get_or (x ∷ xs) zero d h = inl refl
-In-get_or (x ∷ xs) (suc i) d h = inr (In-get_or xs i d (omega arith))
-
 -- an earlier place has a smaller number
 sorted_at : (b : List ℕ) (i j : ℕ) → IsSorted ltb b → i < j → j < length b → get_or b i 0 < get_or b j 0
 sorted_at [] i j s h k = absurd (omega arith)
+
 sorted_at (p ∷ b) i zero s h k = absurd (omega arith)
+
 sorted_at (p ∷ b) zero (suc j) s h k = ltb-true p (get_or b j 0) (s.0 (get_or b j 0) (In-get_or b j 0 (omega arith)))
+
 sorted_at (p ∷ b) (suc i) (suc j) s h k = sorted_at b i j s.1 (omega arith) (omega arith)
 
 pub set_apart : (v : ℕ) (b : List ℕ) (i j : ℕ) → IsSet v b → i < length b → j < length b → get_or b i 0 ≡ get_or b j 0 → i ≡ j

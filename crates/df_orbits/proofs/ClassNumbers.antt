@@ -16,7 +16,7 @@ use Rattle.df_acting.specs.Classes.{IsSpread}
 use Rattle.df_acting.specs.Earliest.{is_earliest}
 use Rattle.df_lists.proofs.TestLaws.{same_tests, any_from, filter_agree, map_fixed}
 use Rattle.df_acting.proofs.EarliestLaws.{least_gives, least_same, least_least, least_once, least_class}
-use Rattle.df_acting.proofs.SpreadLaws.{lists_equal, candidates_spread}
+use Rattle.df_maps.proofs.SpreadLaws.{lists_equal, candidates_spread}
 use Rattle.df_maps.specs.FullMaps.{MapGroup, full_maps, image, point_count, carried}
 use Rattle.df_maps.specs.Laws.{AreGroup}
 use Rattle.df_maps.proofs.LoopSteps.{map-map}

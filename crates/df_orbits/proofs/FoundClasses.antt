@@ -18,7 +18,7 @@ use Rattle.df_lists.proofs.TestLaws.{same_tests, any_from, any_gives}
 use Rattle.df_acting.proofs.ClassLaws.{class_same, class_comm}
 use Rattle.df_acting.proofs.EarliestLaws.{least_unmarked}
 use Rattle.df_acting.proofs.ImageLaws.{image_group}
-use Rattle.df_acting.proofs.SpreadLaws.{lists_equal, subsets_spread}
+use Rattle.df_maps.proofs.SpreadLaws.{lists_equal, subsets_spread}
 use Rattle.df_maps.specs.FullMaps.{MapGroup, full_maps, image, point_count, carried}
 use Rattle.df_maps.specs.Laws.{AreGroup}
 use Rattle.df_maps.proofs.MarkSteps.{any_take_more}

@@ -4,7 +4,7 @@ use Rattle.std.proofs.lemmas.List.{drop_more, drop_all, length-drop}
 use Rattle.std.proofs.lemmas.Nat.{div-mul-add, mod-mul-add, mul-add-lt}
 use Rattle.df_subsets.specs.Blocks.{Rises, IsBlock}
 use Rattle.df_subsets.specs.Subsets.{binomial, rank}
-use Rattle.df_subsets.proofs.BlockBits.{point_below}
+use Rattle.df_lists.proofs.RisingLists.{point_below}
 use Rattle.df_subsets.proofs.Places.{later, rank_later}
 use Rattle.df_orbits.specs.LookupTables.{AreLater}
 

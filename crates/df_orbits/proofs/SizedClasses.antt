@@ -21,7 +21,7 @@ use Rattle.df_acting.specs.Earliest.{is_earliest}
 use Rattle.df_lists.proofs.TestLaws.{any_from, any_gives, filter_agree, map_agree}
 use Rattle.df_acting.proofs.ClassLaws.{class_gives}
 use Rattle.df_acting.proofs.ImageLaws.{length-image}
-use Rattle.df_acting.proofs.SpreadLaws.{lists_equal}
+use Rattle.df_maps.proofs.SpreadLaws.{lists_equal}
 use Rattle.df_orbits.proofs.SortedLists.{sorted_same}
 use Rattle.df_maps.specs.FullMaps.{MapGroup, full_maps, image, point_count, carried}
 use Rattle.df_maps.specs.Laws.{AreGroup}

@@ -20,11 +20,6 @@ pub with_last : (low p : ℕ) (b : List ℕ) → Rises low p b → with_member p
 with_last low p [] r = refl
 with_last low p (q ∷ b) r = rw (le-ltb p q (omega (arith, r.1)), ne_eqb p q (λ e. absurd (omega (arith, e, r.1)))) (ap (λ l. q ∷ l) (with_last (q + 1) p b r.2))
 
-pub point_below : (low v : ℕ) (b : List ℕ) (i d : ℕ) → Rises low v b → i < length b → get_or b i d < v
-point_below low v [] i d r h = absurd (omega arith)
-point_below low v (p ∷ b) zero d r h = r.1
-point_below low v (p ∷ b) (suc i) d r h = point_below (p + 1) v b i d r.2 (omega arith)
-
 -- the weight of a run
 pub weight_run : (a t : ℕ) → weight (range_with_len a t) + 2 ^ a ≡ 2 ^ (a + t)
 weight_run a zero = let same : 2 ^ (a + 0) ≡ 2 ^ a = ap (λ n. 2 ^ n) {x = a + 0} {y = a} (omega arith) in omega (arith, same)

@@ -10,6 +10,7 @@ use Rattle.df_subsets.specs.Subsets.{choose, subsets}
 use Rattle.df_lists.specs.Orders.{IsOrder, IsSorted}
 use Rattle.df_lists.proofs.MemberLaws.{In-append_cases, In-map_gives}
 use Rattle.df_subsets.proofs.SubsetLists.{choose_inside}
+use Rattle.df_lists.proofs.SortedLists.{sorted-append, sorted-map}
 
 before_unlike : (a : List ℕ) → before a a ≡ false
 before_unlike [] = refl
@@ -55,14 +56,6 @@ before_is (p ∷ a) (q ∷ b) = go (cases_order p q) (before_is a b)
     go (inl e) ih = rw (le-ltb p q (omega arith), eq-eqb p q e) ih
     go (inr (inl l)) ih = rw (lt-ltb p q l) refl
     go (inr (inr l)) ih = rw (le-ltb p q (omega arith), ne_eqb p q (λ e. absurd (omega (arith, e, l)))) refl
-
-pub sorted-append : {X : Type 0} (earlier : X → X → Bool) (xs ys : List X) → IsSorted earlier xs → IsSorted earlier ys → ((x y : X) → In xs x → In ys y → earlier x y ≡ true) → IsSorted earlier (xs ++ ys)
-sorted-append earlier [] ys s t h = t
-sorted-append earlier (x ∷ xs) ys s t h = (λ y i. ⊎_elim (λ j. s.0 y j) (λ j. h x y (inl refl) j) (In-append_cases xs ys y i), sorted-append earlier xs ys s.1 t (λ z y i j. h z y (inr i) j))
-
-pub sorted-map : {X Y : Type 0} (earlier : X → X → Bool) (sooner : Y → Y → Bool) (f : X → Y) (xs : List X) → ((x y : X) → earlier x y ≡ true → sooner (f x) (f y) ≡ true) → IsSorted earlier xs → IsSorted sooner (map f xs)
-sorted-map earlier sooner f [] h s = tt
-sorted-map earlier sooner f (x ∷ xs) h s = (λ y i. let r = In-map_gives f xs y i in subst (λ z. sooner (f x) z ≡ true) r.2 (h x r.0 (s.0 r.0 r.1)), sorted-map earlier sooner f xs h s.1)
 
 pub choose_sorted : (low n k : ℕ) → IsSorted before (choose (range_with_len low n) k)
 choose_sorted low n zero = (λ y i. absurd i, tt)

@@ -12,6 +12,7 @@ use Rattle.df_subsets.specs.Subsets.{choose, subsets, binomial, same_list, place
 use Rattle.df_subsets.proofs.BlockLaws.{Rises-wider}
 use Rattle.df_subsets.proofs.SubsetLists.{length-choose, subsets_inside, subsets_long, same_list-gives, same_list-self}
 use Rattle.df_subsets.proofs.BlockOrders.{lists_ordered, subsets_sorted}
+use Rattle.df_lists.proofs.ListPlaces.{In-get_or}
 
 -- how many blocks of the size of b come after it: for each of its points those that agree before the point and have a later one there
 abbrev pub later : ℕ → List ℕ → ℕ
@@ -64,18 +65,13 @@ stands (suc n) low v (suc k) (p ∷ b) d w r e =
           ∙ more.1 m at,
     )
 
-get_or-In : {X : Type 0} (xs : List X) (i : ℕ) (d : X) → i < length xs → In xs (get_or xs i d)
-get_or-In [] i d h = absurd (omega arith)
-get_or-In (x ∷ xs) zero d h = inl refl
-get_or-In (x ∷ xs) (suc i) d h = inr (get_or-In xs i d (omega arith))
-
 -- in a sorted list each member stands first at its place
 place_at : (xs : List (List ℕ)) (i : ℕ) (d : List ℕ) → IsSorted before xs → i < length xs → place_of (get_or xs i d) xs ≡ i
 place_at [] i d s h = absurd (omega arith)
 place_at (x ∷ xs) zero d s h = rw (same_list-self x) refl
 place_at (x ∷ xs) (suc i) d s h =
     let y = get_or xs i d in
-    let differs : same_list y x ≡ false = ⊎_elim (λ t. absurd (both_ways (before x x) (lists_ordered.unlike x) (subst (λ z. before x z ≡ true) (same_list-gives y x t) (s.0 y (get_or-In xs i d (omega arith)))))) (λ f. f) (cases_Bool (same_list y x)) in
+    let differs : same_list y x ≡ false = ⊎_elim (λ t. absurd (both_ways (before x x) (lists_ordered.unlike x) (subst (λ z. before x z ≡ true) (same_list-gives y x t) (s.0 y (In-get_or xs i d (omega arith)))))) (λ f. f) (cases_Bool (same_list y x)) in
     rw differs (ap suc (place_at xs i d s.1 (omega arith)))
 
 -- the rank, from the number of blocks that come after
@@ -104,14 +100,14 @@ pub rank_of : (v k i : ℕ) (b : List ℕ) → slice_get (subsets v k) i ≡ Som
 rank_of v k i b h =
     let inside = slice_get_within (subsets v k) i b h in
     let at = get_or_from_slice_get (subsets v k) i b [] h in
-    let long = (subsets_inside v k b (subst (In (subsets v k)) at (get_or-In (subsets v k) i [] inside))).1 in
+    let long = (subsets_inside v k b (subst (In (subsets v k)) at (In-get_or (subsets v k) i [] inside))).1 in
     ap (λ n. place_of b (subsets v n)) long ∙ sym (ap (λ c. place_of c (subsets v k)) at) ∙ place_at (subsets v k) i [] (subsets_sorted v k) inside
 
 -- what stands at a place is a block of the size
 pub inside_at : (v k i : ℕ) (b : List ℕ) → slice_get (subsets v k) i ≡ Some b → IsBlock v b × (length b ≡ k)
 inside_at v k i b h =
     let inside = slice_get_within (subsets v k) i b h in
-    subsets_inside v k b (subst (In (subsets v k)) (get_or_from_slice_get (subsets v k) i b [] h) (get_or-In (subsets v k) i [] inside))
+    subsets_inside v k b (subst (In (subsets v k)) (get_or_from_slice_get (subsets v k) i b [] h) (In-get_or (subsets v k) i [] inside))
 
 -- the choices that have the first point, and those that don't
 pub with_first_at : (n low k i : ℕ) → i < binomial n k → get_or (choose (range_with_len low (suc n)) (suc k)) i [] ≡ low ∷ get_or (choose (range_with_len (low + 1) n) k) i []

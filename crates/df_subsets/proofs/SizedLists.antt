@@ -8,29 +8,9 @@ use Rattle.df_subsets.specs.Blocks.{Rises, IsBlock, before}
 use Rattle.df_lists.specs.Orders.{IsSorted}
 use Rattle.df_subsets.specs.Subsets.{choose, points, same_list, nonempty, candidates}
 use Rattle.df_lists.proofs.MemberLaws.{In-append_cases, In-map_gives, In-filter, In-filter_gives}
-use Rattle.df_lists.proofs.TestLaws.{same_tests, filter_agree}
+use Rattle.df_lists.proofs.TestLaws.{same_tests, filter_agree, filter-filter, filter-map, filter_fails}
 use Rattle.df_subsets.proofs.SubsetLists.{Rises-from, subsets_inside, subsets_once, subsets_have, same_list-gives}
-use Rattle.df_subsets.proofs.BlockOrders.{sorted-append, sorted-map}
-
-filter-map : {X Y : Type 0} (p : Y → Bool) (f : X → Y) (xs : List X) → filter p (map f xs) ≡ map f (filter (λ x. p (f x)) xs)
-filter-map p f [] = refl
-filter-map p f (x ∷ xs) =
-    elim (p (f x)) as (λ b. cond b (f x ∷ filter p (map f xs)) (filter p (map f xs)) ≡ map f (cond b (x ∷ filter (λ x. p (f x)) xs) (filter (λ x. p (f x)) xs))) [
-      | true ↦ ap (λ l. f x ∷ l) (filter-map p f xs)
-      | false ↦ filter-map p f xs
-    ]
-
-filter-filter : {X : Type 0} (q p : X → Bool) (xs : List X) → filter q (filter p xs) ≡ filter (λ x. p x && q x) xs
-filter-filter q p [] = refl
-filter-filter q p (x ∷ xs) =
-    elim (p x) as (λ b. filter q (cond b (x ∷ filter p xs) (filter p xs)) ≡ cond (b && q x) (x ∷ filter (λ x. p x && q x) xs) (filter (λ x. p x && q x) xs)) [
-      | true ↦ ap (λ l. cond (q x) (x ∷ l) l) (filter-filter q p xs)
-      | false ↦ filter-filter q p xs
-    ]
-
-filter_none : {X : Type 0} (t : X → Bool) (xs : List X) → ((x : X) → In xs x → t x ≡ false) → filter t xs ≡ []
-filter_none t [] h = refl
-filter_none t (x ∷ xs) h = rw (h x (inl refl)) (filter_none t xs (λ y i. h y (inr i)))
+use Rattle.df_lists.proofs.SortedLists.{sorted-append, sorted-map, sorted-filter}
 
 some_point : (ps : List ℕ) (b : List ℕ) → In (nonempty ps) b → 0 < length b
 some_point [] b i = absurd i
@@ -41,7 +21,7 @@ eqb-suc a b = same_tests (eqb (suc a) (suc b)) (eqb a b) (λ h. let e = eqb-true
 
 -- the blocks of one size among all
 pub choose_is : (ps : List ℕ) (k : ℕ) → choose ps k ≡ filter (λ b. eqb k (length b)) ([] ∷ nonempty ps)
-choose_is ps zero = sym (ap (λ l. [] ∷ l) (filter_none (λ b. eqb 0 (length b)) (nonempty ps) (λ b i. let h = some_point ps b i in ne_eqb 0 (length b) (omega (arith, h)))))
+choose_is ps zero = sym (ap (λ l. [] ∷ l) (filter_fails (λ b. eqb 0 (length b)) (nonempty ps) (λ b i. let h = some_point ps b i in ne_eqb 0 (length b) (omega (arith, h)))))
 choose_is [] (suc k) = rw (ne_eqb (suc k) 0 (λ e. absurd (omega (arith, e)))) refl
 choose_is (p ∷ ps) (suc k) =
     let two = filter-append (λ b. eqb (suc k) (length b)) (map (λ c. p ∷ c) ([] ∷ nonempty ps)) (nonempty ps) in
@@ -52,15 +32,6 @@ choose_is (p ∷ ps) (suc k) =
     ∙ ap (λ l. map (λ c. p ∷ c) (filter (λ b. eqb k (length b)) ([] ∷ nonempty ps)) ++ l) rest
     ∙ sym (ap (λ b. cond b ([] ∷ filter (λ b. eqb (suc k) (length b)) (nonempty (p ∷ ps))) (filter (λ b. eqb (suc k) (length b)) (nonempty (p ∷ ps)))) empty
     ∙ two ∙ ap (λ l. l ++ filter (λ b. eqb (suc k) (length b)) (nonempty ps)) one)
-
-sorted-filter : {X : Type 0} (earlier : X → X → Bool) (t : X → Bool) (xs : List X) → IsSorted earlier xs → IsSorted earlier (filter t xs)
-sorted-filter earlier t [] s = tt
-sorted-filter earlier t (x ∷ xs) s =
-    let more = sorted-filter earlier t xs s.1 in
-    elim (t x) as (λ b. IsSorted earlier (cond b (x ∷ filter t xs) (filter t xs))) [
-      | true ↦ (λ y i. s.0 y (In-filter_gives t xs y i).0, more)
-      | false ↦ more
-    ]
 
 nonempty_rises : (low n : ℕ) (b : List ℕ) → In (nonempty (range_with_len low n)) b → Rises low (low + n) b
 nonempty_rises low zero b i = absurd i

@@ -1,4 +1,7 @@
 // Points and blocks.
+//
+// A block is the set of its points' numbers, 16 bytes that are copied as a number: the orbits and the matrix keep millions of
+// them. Its points are taken out of the set one by one, the least first. No call takes memory.
 ghost use Rattle.std.specs.Prelude.{◌≡◌, ◌==◌, ◌||◌, ◌+◌, ◌<◌, ℕ, [], length, nat_eq, if◌then◌else◌, IfSome};
 ghost use Rattle.std.specs.Ordering.{nat_cmp, as_partial_cmp};
 ghost use Rattle.std.specs.Cmp.Lexicographic.{pointwise, slice_cmp, lists_per, lists_equiv, lists_total};

@@ -1,6 +1,7 @@
-//! Points and blocks, and all blocks of a size: a block is a set of points below 128, kept in 128 bits, with the order of lists.
-//! It stands on df_lists for sets of numbers, on df_acting for what an order is, and on arrayvec.
-//! The crates above see a `Point` as its number, a `Block` as the increasing list of its points, and places as those in the list of all blocks of a size; the laws of these lists are functions of empty body.
+//! Points and blocks, and all blocks of a size: a block is a set of points below 128, with the order of lists.
+//! It stands on df_lists, for the words on lists and orders, on df_sets, for sets of numbers, and on arrayvec.
+//! The crates above see a `Point` as its number, a `Block` as the increasing list of its points, and places as those in the list of all blocks of a size.
+//! Laws for the rooms above: proofs/Binomials, proofs/BlockLaws, proofs/BlockOrders, proofs/Places, proofs/SizedLists, proofs/SubsetLists.
 #![tactic(auto)]
 
 mod block;

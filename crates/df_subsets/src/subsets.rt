@@ -1,4 +1,8 @@
 // All blocks of a size in order: the first, the next, places, and how many there are.
+//
+// The next block is found on the bits. The points in the unbroken run at the top can't move up; the last point below that run
+// moves up by one, and the run follows it at once. That takes a step for each point of the run, one or two for most blocks. A
+// place is counted from the end, as a sum of one binomial for each point, each of as many products as it chooses points.
 ghost use Rattle.std.specs.Prelude.{◌≡◌, ◌+◌, ◌-◌, ◌*◌, ◌/◌, ◌^◌, ◌<◌, ◌≤◌, length, slice_get, IfSome};
 ghost use Rattle.std.specs.List.{range_with_len};
 ghost use Rattle.df_lists.specs.Bits.{weight};

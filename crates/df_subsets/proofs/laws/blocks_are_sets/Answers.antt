@@ -1,7 +1,7 @@
 use Rattle.std.proofs.Common.{arith}
 use Rattle.df_subsets.proofs.BlockLaws.{same_points, block_of_below, block_is_set, set_is_block}
 use Rattle.df_lists.proofs.RisingLists.{Rises-bound, length_fits}
-use Rattle.df_subsets.proofs.BlockBits.{point_below}
+use Rattle.df_lists.proofs.RisingLists.{point_below}
 use Rattle.df_subsets.proofs.laws.blocks_are_sets.Goals as goal
 
 pub returns : goal.returns

@@ -2,7 +2,7 @@ use Rattle.std.proofs.Common.{◌≡◌, ℕ, ◌+◌, ◌-◌, ◌^◌, ◌<◌
 use Rattle.std.proofs.lemmas.List.{drop_more, drop_all, length-drop}
 use Rattle.df_subsets.specs.Blocks.{IsBlock}
 use Rattle.df_subsets.specs.Subsets.{binomial, rank}
-use Rattle.df_subsets.proofs.BlockBits.{point_below}
+use Rattle.df_lists.proofs.RisingLists.{point_below}
 use Rattle.df_subsets.proofs.Binomials.{binomial_fits}
 use Rattle.df_subsets.proofs.Places.{later, rank_later, at_rank}
 use Rattle.df_subsets.proofs.subsets.rank.Goals as goal

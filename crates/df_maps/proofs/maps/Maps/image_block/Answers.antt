@@ -3,7 +3,7 @@ use Rattle.std.proofs.lemmas.List.{take_all}
 use Rattle.std.specs.List.{list_any}
 use Rattle.df_lists.specs.NumberSets.{has_member}
 use Rattle.df_subsets.specs.Blocks.{IsBlock}
-use Rattle.df_subsets.proofs.BlockBits.{point_below}
+use Rattle.df_lists.proofs.RisingLists.{point_below}
 use Rattle.df_subsets.proofs.BlockLaws.{block_is_set}
 use Rattle.df_acting.proofs.ImageLaws.{length-image}
 use Rattle.df_maps.specs.FullMaps.{point_count, carried, image, full_maps}
