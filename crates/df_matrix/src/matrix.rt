@@ -2,7 +2,7 @@
 ghost use Rattle.std.specs.Prelude.{◌≡◌, ◌⊎◌, ◌+◌, ◌<◌, ◌≤◌, ◌-◌, ◌∷◌, [], length, All, Some, None, IfOk, IfErr, IsOk};
 ghost use Rattle.df_lang.specs.Problems.{point_count, IsBlock, IsStated};
 ghost use Rattle.df_kramer_mesner.specs.OrbitSystems.{orbit_system, pairs_of, needed_of, orbits_of, columns_of, targets_of, targets_of as all_targets, pair_at, needed_at, column_at, orbit_at, entry_at, cells_of, column_number, representative};
-ghost use Rattle.df_matrix.specs.Limits.{limit_passed, or_else, column_limit, entry_limit, column_limit_of, entry_limit_of};
+ghost use Rattle.df_matrix.specs.Limits.{limit_passed, or_else, column_limit, entry_limit, column_limit_of, entry_limit_of, passed_by};
 ghost use Rattle.df_matrix.specs.MatrixParts.{AreColumns, needed_places, kept_places};
 ghost use Rattle.df_matrix.specs.declared.matrix.MatrixError.TheVariants.{OutOfMemory as OutOfMemoryError};
 
@@ -13,7 +13,7 @@ use crate::columns::{
 use crate::orbits::ProblemOrbits;
 use df_kramer_mesner::{columns_are_sparse, orbits_are_numbered, rows_are_pairs_and_needed};
 use df_lang::Problem;
-use df_orbits::MOST_SUMMED;
+use df_orbits::{MOST_SUMMED, OrbitError};
 use df_subsets::{Block, Point};
 use df_system::System;
 use std::alloc::{AllocError, Global};
@@ -180,7 +180,7 @@ pub fn build(alloc: Global, problem: &Problem) -> Result<OrbitMatrix, MatrixErro
 {
     let orbits = match ProblemOrbits::new(alloc, problem) {
         Ok(orbits) => orbits,
-        Err(error) => return Err(error),
+        Err(error) => return Err(passed(error)),
     };
     match parts_of(alloc, &orbits) {
         Ok(parts) => Ok(OrbitMatrix {
@@ -190,6 +190,17 @@ pub fn build(alloc: Global, problem: &Problem) -> Result<OrbitMatrix, MatrixErro
             system: parts.system,
         }),
         Err(error) => Err(error),
+    }
+}
+
+// What a limit of the orbits is for the matrix.
+fn passed(error: OrbitError) -> MatrixError
+    ensures { result ≡ passed_by error }
+{
+    match error {
+        OrbitError::TooManySubsets { points, size } => MatrixError::TooManySubsets { points, size },
+        OrbitError::TooManySummed { points, sum } => MatrixError::TooManySummed { points, sum },
+        OrbitError::OutOfMemory => MatrixError::OutOfMemory,
     }
 }
 

@@ -7,20 +7,19 @@ ghost use Rattle.df_lists.specs.Membership.{In};
 ghost use Rattle.df_subsets.specs.Blocks.{IsBlock};
 ghost use Rattle.df_lang.specs.Problems.{point_count, IsStated, IsBlock as IsSizedBlock};
 ghost use Rattle.df_maps.specs.Laws.{AreGroup};
+ghost use Rattle.df_orbits.specs.declared.orbits.OrbitError.{OrbitError as OrbitErrorValue};
+ghost use Rattle.df_orbits.specs.declared.orbits.OrbitError.TheVariants.{OutOfMemory as OutOfMemoryError};
 ghost use Rattle.df_orbits.specs.OrbitClasses.{pair_classes, block_classes, first_members};
 ghost use Rattle.df_kramer_mesner.specs.OrbitSystems.{maps_of_problem, alike, all_blocks, pairs_of, orbits_of, pair_at, orbit_at, row_number, orbit_number, row_size, orbit_size};
 ghost use Rattle.df_matrix.specs.Limits.{subset_limit, subset_limit_of, block_count, only_size};
-ghost use Rattle.df_matrix.specs.declared.matrix.MatrixError.{MatrixError as MatrixErrorValue};
-ghost use Rattle.df_matrix.specs.declared.matrix.MatrixError.TheVariants.{OutOfMemory as OutOfMemoryError};
 
 use crate::OutOfMemory;
-use crate::matrix::MatrixError;
 use df_kramer_mesner::{entries_are_quotients, numbers_are_few};
 use df_lang::Problem;
 use df_maps::{Maps, maps_are_groups, maps_are_made};
 use df_orbits::{
-    Images, MOST_SUBSETS, MOST_SUMMED, Orbits, PairNumbers, count_blocks, orbits_of_pairs,
-    orbits_of_sizes,
+    Images, MOST_SUBSETS, MOST_SUMMED, OrbitError, Orbits, PairNumbers, count_blocks,
+    orbits_of_pairs, orbits_of_sizes,
 };
 use df_subsets::{Block, Point, blocks_are_sets};
 use std::alloc::Global;
@@ -72,22 +71,22 @@ fn all_sizes(problem: &Problem) -> &[u8]
 }
 
 // Whether a number of blocks is above the limit of the version.
-fn judge_count(version: u8, points: u8, size: u8, count: u128) -> Result<(), MatrixError>
+fn judge_count(version: u8, points: u8, size: u8, count: u128) -> Result<(), OrbitError>
     ensures within { IsOk result → subset_limit_of version points size count ≡ None }
     ensures few { IsOk result → count ≤ MOST_SUMMED }
     ensures refused { IfErr result (λ e. subset_limit_of version points size count ≡ Some e) }
 {
     if version == 1 && count > MOST_SUBSETS {
-        return Err(MatrixError::TooManySubsets { points, size });
+        return Err(OrbitError::TooManySubsets { points, size });
     }
     if version != 1 && count > MOST_SUMMED {
-        return Err(MatrixError::TooManySummed { points, sum: count });
+        return Err(OrbitError::TooManySummed { points, sum: count });
     }
     Ok(())
 }
 
 // Whether a problem has too many blocks.
-fn judge_blocks(problem: &Problem) -> Result<(), MatrixError>
+fn judge_blocks(problem: &Problem) -> Result<(), OrbitError>
     ensures within { IsOk result → subset_limit problem.now ≡ None }
     ensures few { IsOk result → block_count problem.now ≤ MOST_SUMMED }
     ensures refused { IfErr result (λ e. subset_limit problem.now ≡ Some e) }
@@ -125,9 +124,9 @@ fn listed(alloc: Global, problem: &Problem) -> Result<ProblemOrbits, OutOfMemory
 impl ProblemOrbits {
     /// The orbits of a problem.
     /// `TooManySubsets` or `TooManySummed` exactly where there are more blocks than the limit of the version, which is judged first.
-    pub fn new(alloc: Global, problem: &Problem) -> Result<ProblemOrbits, MatrixError>
+    pub fn new(alloc: Global, problem: &Problem) -> Result<ProblemOrbits, OrbitError>
         ensures value { IfOk result (λ orbits. orbits ≡ problem.now) }
-        ensures above { (e : MatrixErrorValue) → subset_limit problem.now ≡ Some e → result ≡ Err e }
+        ensures above { (e : OrbitErrorValue) → subset_limit problem.now ≡ Some e → result ≡ Err e }
         ensures below { subset_limit problem.now ≡ None → IfErr result (λ e. e ≡ OutOfMemoryError) }
     {
         if let Err(error) = judge_blocks(problem) {
@@ -135,7 +134,7 @@ impl ProblemOrbits {
         }
         match listed(alloc, problem) {
             Ok(orbits) => Ok(orbits),
-            Err(_) => Err(MatrixError::OutOfMemory),
+            Err(_) => Err(OrbitError::OutOfMemory),
         }
     }
 

@@ -4,7 +4,7 @@ use Rattle.df_matrix.proofs.SubsetLimits.{limit_later, not_passed, passed_first}
 use Rattle.df_matrix.proofs.matrix.build.Goals as goal
 
 pub returns-in-Err-clause-refused : goal.returns-in-Err-clause-refused
-returns-in-Err-clause-refused c = passed_first c.args.problem.now c.in-Err.error c.in-Err.ensures.above c.in-Err.ensures.below
+returns-in-Err-clause-refused c = passed_first c.args.problem.now c.in-Err.error c.passed.result c.passed.ensures c.in-Err.ensures.above c.in-Err.ensures.below
 
 pub returns-in-Ok-parts_of-clause-within : goal.returns-in-Ok-parts_of-clause-within
 returns-in-Ok-parts_of-clause-within c = λ _.
