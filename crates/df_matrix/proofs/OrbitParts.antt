@@ -13,7 +13,7 @@ use Rattle.df_lists.proofs.MemberLaws.{In-filter_gives, count_some}
 use Rattle.df_subsets.specs.Subsets.{same_list}
 use Rattle.df_acting.proofs.ClassLaws.{class_self}
 use Rattle.df_acting.proofs.ImageLaws.{image_group}
-use Rattle.df_acting.proofs.SpreadLaws.{lists_equal}
+use Rattle.df_maps.proofs.SpreadLaws.{lists_equal}
 use Rattle.df_maps.specs.FullMaps.{MapGroup}
 use Rattle.df_maps.proofs.SetLists.{In-get_or}
 use Rattle.df_orbits.specs.OrbitClasses.{class_size, classes_of, earliest_of, first_members, class_sizes}
