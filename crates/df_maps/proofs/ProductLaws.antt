@@ -12,7 +12,7 @@ use Rattle.df_lists.proofs.TestLaws.{any_from, any_gives, has_from, has_gives}
 use Rattle.df_acting.proofs.ImageLaws.{In-points, In-points_gives, filter_is_set}
 use Rattle.df_maps.specs.Products.{product_of, AllIn, products_within, products, AreProducts}
 use Rattle.std.proofs.lemmas.Nat.{mul-mod_second}
-pub use Rattle.df_lists.proofs.ListTotals.{count_most, count_less}
+pub use Rattle.df_lists.proofs.ListTotals.{count_most, count_less, count_whole}
 pub use Rattle.df_lists.proofs.MemberLaws.{In-flat_map, In-flat_map_gives}
 pub use Rattle.df_lists.proofs.SetLaws.{set_long}
 
