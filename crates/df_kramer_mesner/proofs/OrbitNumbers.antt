@@ -1,5 +1,5 @@
 -- The numbers of orbits and columns, and the entries of the system.
-use Rattle.std.proofs.Common.{◌≡◌, ℕ, suc, ◌+◌, ◌<◌, Bool, true, false, cond, map, List, [], ◌∷◌, length, get_or, refl, sym, ap, ◌∙◌, subst, arith, Option, Some, None, inl, inr, slice_get}
+use Rattle.std.proofs.Common.{◌≡◌, ℕ, suc, ◌+◌, ◌<◌, Bool, true, false, cond, map, List, [], ◌∷◌, length, refl, sym, ap, ◌∙◌, subst, arith, Some, None, inl, inr, slice_get}
 use Rattle.std.proofs.lemmas.List.{length-map, get_or-map}
 use Rattle.std.proofs.lemmas.Option.{same_Some}
 use Rattle.df_system.proofs.PositiveCells.{entry_of-positive_cells}

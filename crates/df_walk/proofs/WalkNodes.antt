@@ -4,7 +4,7 @@ use Rattle.std.specs.Prelude.{filter, ◌&&◌, ◌||◌}
 use Rattle.std.proofs.lemmas.List.{append_assoc, append-nil, map-append}
 use Rattle.std.proofs.lemmas.Simd.{map-map}
 use Rattle.std.proofs.lemmas.List.Elements.{filter_agree, filter-append, filter_map-append}
-use Rattle.std.proofs.Math.Bool.{or_assoc}
+use Rattle.std.proofs.Math.Bool.{or_assoc, and-false, and-true}
 use Rattle.df_lists.proofs.TestLaws.{filter-map, filter_never}
 use Rattle.df_walk.specs.declared.Rules.{Rules}
 use Rattle.df_walk.specs.declared.Entry.{Entry}
@@ -34,21 +34,13 @@ module _ (rules : Rules) (s : System) (p : List Bool) (v : settled_between s [] 
   node_is q = let e = settled_between-append s [] p q in rw (e, v)
 
   node_here : (e : Entry) → Says rules s p e → is_node rules s (p ++ []) ≡ counts e
-  node_here e h = rw (append-nil p, v, live_counts rules s p e h) (and_true (counts e))
-    where
-      and_true : (b : Bool) → (b && true) ≡ b
-      and_true true = refl
-      and_true false = refl
+  node_here e h = rw (append-nil p, v, live_counts rules s p e h) (and-true (counts e))
 
   dead : ((q : List Bool) → is_live rules s (decided (p ++ q)) ≡ false) → (xs : List (List Bool)) → filter (λ q. is_node rules s (p ++ q)) xs ≡ []
   dead h xs = filter_none (λ q. is_node rules s (p ++ q)) xs (λ q. rw (h q))
 
   ended : is_settled s (decided p) ≡ true → (b : Bool) (q : List Bool) → is_node rules s (p ++ b ∷ q) ≡ false
-  ended h b q = node_is (b ∷ q) ∙ rw h (and_false (is_live rules s (decided (p ++ b ∷ q))))
-    where
-      and_false : (b : Bool) → (b && false) ≡ false
-      and_false true = refl
-      and_false false = refl
+  ended h b q = node_is (b ∷ q) ∙ rw h (and-false (is_live rules s (decided (p ++ b ∷ q))))
 
   -- the nodes one column further
   further : (b : Bool) (xs : List (List Bool)) → map (λ q. (p ++ b ∷ []) ++ q) (filter (λ q. is_node rules s ((p ++ b ∷ []) ++ q)) xs) ≡ map (λ q. p ++ q) (filter (λ q. is_node rules s (p ++ q)) (map (λ q. b ∷ q) xs))
