@@ -18,7 +18,7 @@ use Rattle.df_walk.proofs.LogForms.{Completes-from_AreLogs, AreLogs-from_Complet
 use Rattle.df_runs.specs.Runs.{Run, run_of, then_run, walk_at, rest_at, EndsAt}
 use Rattle.df_runs.specs.Chains.{chain_run, Leg, chain_from, chain_stop, AreAllowed, steps_of, legs_of, open_at, open_at_stop}
 use Rattle.df_runs.specs.Statements.{IsWholeChain, IsChain, IsOwnChain}
-use Rattle.df_runs.proofs.WalkRuns.{run_whole, run_join, finished_stays}
+use Rattle.df_runs.proofs.WalkRuns.{ends_there, run_whole, run_join, finished_stays}
 use Rattle.df_runs.proofs.OpenPaths.{walk_passes_on}
 
 chosen_in-append : (s : System) (A B : List Step) (M : List (List ℕ)) → chosen_in s A ++ (chosen_in s B ++ M) ≡ chosen_in s (A ++ B) ++ M
@@ -136,10 +136,7 @@ chain_total rules s (m ∷ budgets) p n =
     legs = legs_of rules (m ∷ budgets)
 
     go : (o : Option (List Bool)) → (run_of rules s p n).stop ≡ o → ((q : List Bool) → chain_run s (Some q) legs ≡ run_of rules s q (total (m ∷ budgets))) → then_run (run_of rules s p n) (chain_run s o legs) ≡ run_of rules s p (total (n ∷ m ∷ budgets))
-    go None h more = finished_again (run_of rules s p n) h ∙ sym (finished_stays rules s p n (total (m ∷ budgets)) h)
-      where
-        finished_again : (run : Run) → run.stop ≡ None → then_run run (record { taken = []; stop = None }) ≡ run
-        finished_again run h = rw (append-nil run.taken) (ap (λ (o : Option (List Bool)). record { taken = run.taken; stop = o }) (sym h))
+    go None h more = ends_there (run_of rules s p n) h ∙ sym (finished_stays rules s p n (total (m ∷ budgets)) h)
     go (Some q) h more = ap (then_run (run_of rules s p n)) (more q) ∙ sym (run_join rules s p q n (total (m ∷ budgets)) h)
 
 pub one_log_completes : (s : System) (ds : Decisions) (E : List Entry) (L : List (List ℕ)) → Proves s ds E L → Completes s (ds ∷ []) E L

@@ -6,7 +6,7 @@ use Rattle.df_walk.specs.declared.Rules.{Rules}
 use Rattle.df_walk.specs.Systems.{System, IsSystem}
 use Rattle.df_walk.specs.Walks.{Step, walk, solution_of, solutions_in, node_of, nodes_in}
 use Rattle.df_walk.specs.Paths.{not_before}
-use Rattle.df_walk.specs.Remains.{walk_on, IsStart, remaining, earlier}
+use Rattle.df_walk.specs.Remains.{walk_on, IsStart, earlier}
 use Rattle.df_walk.proofs.DecisionSplits.{filter-filter, and_comm}
 use Rattle.df_walk.proofs.WalkOrder.{on_path, remains_is}
 use Rattle.df_walk.proofs.WalkCuts.{walk-cut}

@@ -21,7 +21,8 @@ use Rattle.df_walk.proofs.WalkNodes.{nodes_in-walk_on}
 use Rattle.df_walk.proofs.NodeVisits.{node_visited, start_of}
 use Rattle.df_runs.specs.Orders.{Ascend}
 use Rattle.df_runs.specs.Runs.{Run, run_over, run_of, then_run, IsRunFrom, counted_as, IsCounted, StopsFirst}
-use Rattle.df_runs.proofs.StepLists.{all_append, all_front, all_back, all_kept, all_pass, Ascend-filter, Ascend-cut}
+use Rattle.df_walk.proofs.MemberLaws.{all_append}
+use Rattle.df_runs.proofs.StepLists.{all_front, all_back, all_kept, all_pass, Ascend-filter, Ascend-cut}
 use Rattle.df_runs.proofs.WalkOrders.{walk_from-all, walk_from-ascends}
 use Rattle.df_runs.proofs.CutNodes.{later_of}
 use Rattle.df_runs.proofs.BudgetRuns.{left_over, Ends, run_splits, run_joins, run_after, nodes_among_is, count_node}
@@ -149,6 +150,10 @@ none_left : (node : List Bool → Bool) (n count : ℕ) (left : List Step) (stop
 none_left node n count left None is ends = ends.0
 none_left node n count left (Some q) is ends = cc
 
+-- a finished run, and then nothing
+pub ends_there : (run : Run) → run.stop ≡ None → then_run run (record { taken = []; stop = None }) ≡ run
+ends_there run is = rw (append-nil run.taken) (ap (λ (o : Option (List Bool)). record { taken = run.taken; stop = o }) (sym is))
+
 pub finished_stays : (rules : Rules) (s : System) (p : List Bool) (n m : ℕ) → (run_of rules s p n).stop ≡ None → run_of rules s p (n + m) ≡ run_of rules s p n
 finished_stays rules s p n m is =
     let steps = remaining rules s p in
@@ -157,9 +162,6 @@ finished_stays rules s p n m is =
     let splits = run_splits (is_node rules s) n steps (steps-counted rules s p) in
     let none = none_left (is_node rules s) n (length (nodes_in run.taken)) left run.stop is splits.ends in
     run_joins (is_node rules s) n m steps ∙ ap (λ l. then_run run (run_over (is_node rules s) m l)) none ∙ ends_there run is
-  where
-    ends_there : (run : Run) → run.stop ≡ None → then_run run (record { taken = []; stop = None }) ≡ run
-    ends_there run is = rw (append-nil run.taken) (ap (λ (o : Option (List Bool)). record { taken = run.taken; stop = o }) (sym is))
 
 pub walk-counted : (rules : Rules) (s : System) → AllByRecursion (IsCounted (is_node rules s)) (walk rules s [])
 walk-counted rules s = walk_from-counted rules s (length s.columns - 0) [] refl

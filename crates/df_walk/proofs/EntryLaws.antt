@@ -1,10 +1,15 @@
 -- The entries of a row, column by column.
-use Rattle.std.proofs.Common.{◌≡◌, ℕ, suc, zero, ◌<◌, List, [], ◌∷◌, length, get_or, map, refl, arith}
+use Rattle.std.proofs.Common.{◌≡◌, ℕ, suc, zero, ◌+◌, ◌<◌, List, [], ◌∷◌, ◌++◌, length, get_or, map, refl, arith}
 use Rattle.std.specs.List.{AllByRecursion}
 use Rattle.std.proofs.lemmas.Bool.{eq-eqb}
 use Rattle.std.proofs.lemmas.List.{length-map}
 use Rattle.df_walk.specs.declared.Cell.{Cell}
 use Rattle.df_walk.specs.Systems.{System, entry_of, entries, cells, IsColumn, IsSystem}
+
+-- the entry of joined cells
+pub entry_of-append : (a b : List Cell) (row : ℕ) → entry_of (a ++ b) row ≡ entry_of a row + entry_of b row
+entry_of-append [] b row = omega arith
+entry_of-append (c ∷ a) b row = omega (arith, entry_of-append a b row)
 
 pub length-entries : (s : System) (row : ℕ) → length (entries s row) ≡ length s.columns
 length-entries s row = length-map s.columns (λ column. entry_of column row)

@@ -24,3 +24,4 @@ pub mod WalkCuts
 pub mod NeedBounds
 pub mod WrittenPaths
 pub mod ColumnWidths
+pub mod MemberLaws

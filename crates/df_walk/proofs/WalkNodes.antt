@@ -13,7 +13,7 @@ use Rattle.df_walk.specs.Walks.{Step, decided, entry_at, below, walk_from, walk,
 use Rattle.df_walk.specs.Paths.{is_live, settled_between, is_node, paths, nodes, not_before, load}
 use Rattle.df_walk.specs.Remains.{walk_on, IsVisited}
 use Rattle.df_walk.proofs.VectorFilters.{filter-map}
-use Rattle.df_walk.proofs.DecisionSplits.{filter_never}
+use Rattle.df_walk.proofs.DecisionSplits.{and-false, and-true, filter_never}
 use Rattle.df_walk.proofs.EntryMeanings.{Says, entry_says}
 use Rattle.df_walk.proofs.DeadPaths.{over_dead, under_dead, residue_dead, counts, live_counts}
 use Rattle.df_walk.proofs.WalkOrder.{on_path, walk_is, walk-not_before}
@@ -38,21 +38,13 @@ module _ (rules : Rules) (s : System) (p : List Bool) (v : settled_between s [] 
   node_is q = let e = settled_between-append s [] p q in rw (e, v)
 
   node_here : (e : Entry) → Says rules s p e → is_node rules s (p ++ []) ≡ counts e
-  node_here e h = rw (append-nil p, v, live_counts rules s p e h) (and_true (counts e))
-    where
-      and_true : (b : Bool) → (b && true) ≡ b
-      and_true true = refl
-      and_true false = refl
+  node_here e h = rw (append-nil p, v, live_counts rules s p e h) (and-true (counts e))
 
   dead : ((q : List Bool) → is_live rules s (decided (p ++ q)) ≡ false) → (xs : List (List Bool)) → filter (λ q. is_node rules s (p ++ q)) xs ≡ []
   dead h xs = filter_none (λ q. is_node rules s (p ++ q)) xs (λ q. rw (h q))
 
   ended : is_settled s (decided p) ≡ true → (b : Bool) (q : List Bool) → is_node rules s (p ++ b ∷ q) ≡ false
-  ended h b q = node_is (b ∷ q) ∙ rw h (and_false (is_live rules s (decided (p ++ b ∷ q))))
-    where
-      and_false : (b : Bool) → (b && false) ≡ false
-      and_false true = refl
-      and_false false = refl
+  ended h b q = node_is (b ∷ q) ∙ rw h (and-false (is_live rules s (decided (p ++ b ∷ q))))
 
   -- the nodes one column further
   further : (b : Bool) (xs : List (List Bool)) → map (λ q. (p ++ b ∷ []) ++ q) (filter (λ q. is_node rules s ((p ++ b ∷ []) ++ q)) xs) ≡ map (λ q. p ++ q) (filter (λ q. is_node rules s (p ++ q)) (map (λ q. b ∷ q) xs))

@@ -1,12 +1,12 @@
 -- The laws of systems, walks and logs. Each is the contract of a function of this crate.
-use Rattle.std.specs.Prelude.{◌≡◌, ◌↔◌, ℕ, ◌+◌, ◌*◌, ◌<◌, ◌≤◌, Bool, true, false, not, List, [], ◌∷◌, ◌++◌, length, map, filter, replicate, drop, Some, None, slice_get, slice_set}
+use Rattle.std.specs.Prelude.{◌≡◌, ◌↔◌, ℕ, ◌+◌, ◌*◌, ◌<◌, ◌≤◌, Bool, true, false, List, [], ◌∷◌, ◌++◌, length, map, filter, replicate, drop, Some, None, slice_get, slice_set}
 use Rattle.std.specs.List.Sorted.{IsPermutation}
 use Rattle.df_walk.specs.declared.Rules.{Rules}
 use Rattle.df_walk.specs.declared.Entry.{Entry}
 use Rattle.df_walk.specs.Systems.{System, IsSystem, entries, entry, target, cells, widest}
 use Rattle.df_walk.specs.Assignments.{Decisions, taken, cap, divisor, common_divisor, is_settled}
 use Rattle.df_walk.specs.Solutions.{keeps, is_solution, solutions, solutions_with, yes_vector, chosen_columns}
-use Rattle.df_walk.specs.Walks.{Step, decided, walk, solutions_in, nodes_in, entries_in}
+use Rattle.df_walk.specs.Walks.{decided, walk, solutions_in, nodes_in, entries_in}
 use Rattle.df_walk.specs.Paths.{is_node, nodes, rest, load, WrittenPath, IsWritten, path_of, written_path}
 use Rattle.df_walk.specs.Remains.{remaining, earlier, walk_on}
 use Rattle.df_walk.specs.Logs.{Proves, AreLogs, Completes}

@@ -193,7 +193,7 @@ fn assert_next<L: Ledger>(
     let wanted = wanted_turn(walk, budget);
     let turn = ask_next(search, &mut left, steps, &mut asked).expect(rt, "memory");
     assert_eq!(rt; turn, wanted.turn);
-    assert_eq!(rt; left, wanted.rest);
+    assert_eq!(rt; left, wanted.left);
     if turn == Turn::Spent {
         if let Some(step) = walk.get(wanted.passed) {
             assert!(rt; asked.as_slice() == step.path.as_slice());
