@@ -7,9 +7,11 @@ A system of n rows and n columns whose entries are all 1 is decided: all columns
 then all decisions are undone, and this again for some rounds. Each take and each undo changes the n cells of a column. The
 seconds are those of all rounds less those of a run with no round, which makes the system alone.
 """
-import pathlib, shutil, subprocess, sys, tempfile, time
+import pathlib, subprocess, sys, tempfile, time
 
-CRATES = {"df_steps": "", "df_walk": "arrayvec", "df_system": "df_steps df_walk"}
+import crates
+
+CRATES = ["df_steps", "df_walk", "df_system"]
 
 PROGRAM = '''//! Takes and undoes the columns of a system of ones: decisions ROWS COLUMNS ROUNDS.
 #![tactic(auto)]
@@ -103,17 +105,11 @@ ghosts-decide g a = record { name = a.blank.name; parts = a.blank.parts }
 
 
 def build(folder):
-    top = pathlib.Path(__file__).resolve().parent.parent
-    for name in CRATES:
-        shutil.copytree(top / "crates" / name, folder / "crates" / name)
-    own = folder / "crates" / "decisions"
-    (own / "src").mkdir(parents=True)
+    own = crates.copy(folder, "decisions", CRATES)
     (own / "src" / "main.rt").write_text(PROGRAM)
     for name, text in PROOFS.items():
         (own / "proofs" / name).mkdir(parents=True)
         (own / "proofs" / name / "Invariants.antt").write_text(text)
-    lines = [f"{name}: {uses}\n" for name, uses in CRATES.items()]
-    (folder / "crates.txt").write_text("".join(lines) + "decisions: df_steps df_walk df_system\n")
     print("proving and building; this takes some minutes", file=sys.stderr)
     subprocess.run(["rt", "run", "--", "0"], cwd=own, check=True, stdout=sys.stderr)
     return own / "out" / "decisions"

@@ -1,30 +1,25 @@
 #!/usr/bin/env python3
-"""Measures how long it takes to list the classes of the blocks of a size, and prints a table of nanoseconds for each block.
+"""Measures how long it takes to list the orbits of the blocks of a size, and prints a table of nanoseconds for each block.
 
 orbits.py [PROGRAM]    PROGRAM is built by the command rt in a folder of its own where it isn't given
 
-The maps are the translations of the whole group, with the products of one multiplier. Each number of classes is compared
+The maps are the translations of the whole group, with the products of one multiplier. Each number of orbits is compared
 with the one that Burnside's lemma gives: the mean number of blocks of the size that a map moves into themselves, which
 is counted from the lengths of the map's cycles. The last problem but one has two maps alone, and the last one as many as
 there can be, and few blocks.
 """
-import itertools, math, pathlib, shutil, subprocess, sys, tempfile, time
+import itertools, math, pathlib, subprocess, sys, tempfile, time
 
-CRATES = {
-    "df_lists": "",
-    "df_acting": "df_lists df_subsets",
-    "df_group": "df_lists arrayvec",
-    "df_subsets": "df_lists arrayvec",
-    "df_maps": "df_lists df_group df_subsets df_acting arrayvec",
-    "df_orbits": "df_lists df_group df_subsets df_acting df_maps",
-}
+import crates
+
+CRATES = ["df_group", "df_subsets", "df_maps", "df_orbits"]
 
 # size, multiplier, fixed points, factors
 PROBLEMS = [(8, 1, 0, [25]), (4, 1, 0, [64]), (4, 1, 0, [8, 8]), (4, 63, 0, [64]), (10, 1, 0, [21]), (4, 1, 62, [2]), (3, 3, 0, [127])]
 
-PROGRAM = '''//! Lists the classes of blocks of elements and fixed points under the translations of a group and one multiplier:
+PROGRAM = '''//! Lists the orbits of blocks of elements and fixed points under the translations of a group and one multiplier:
 //! orbits SIZE MULTIPLIER FIXED FACTOR [FACTOR].
-//! Prints the number of classes and of blocks.
+//! Prints the number of orbits and of blocks.
 #![tactic(auto)]
 
 ghost use Rattle.std.specs.Prelude.{◌<◌};
@@ -77,20 +72,14 @@ fn main(rt: HostRuntime) {
         return;
     }
     let maps = Maps::new(&shape, fixed as u8, &whole(&shape, last), &[mult]);
-    let (classes, blocks) = list(&rt, alloc, &maps, size as u8);
-    println!(rt; "{classes} {blocks}").expect(&rt, "output");
+    let (count, blocks) = list(&rt, alloc, &maps, size as u8);
+    println!(rt; "{count} {blocks}").expect(&rt, "output");
 }
 '''
 
 def build(folder):
-    top = pathlib.Path(__file__).resolve().parent.parent
-    for name in CRATES:
-        shutil.copytree(top / "crates" / name, folder / "crates" / name, ignore=shutil.ignore_patterns("must-fail"))
-    own = folder / "crates" / "orbits"
-    (own / "src").mkdir(parents=True)
+    own = crates.copy(folder, "orbits", CRATES)
     (own / "src" / "main.rt").write_text(PROGRAM)
-    lines = [f"{name}: {uses}\n" for name, uses in CRATES.items()]
-    (folder / "crates.txt").write_text("".join(lines) + "orbits: df_group df_subsets df_maps df_orbits\n")
     print("proving and building; this takes some minutes", file=sys.stderr)
     subprocess.run(["rt", "run"], cwd=own, check=True, stdout=sys.stderr)
     return own / "out" / "orbits"
@@ -135,14 +124,14 @@ def seconds(program, words, wanted):
 
 
 def table(program):
-    print(f"{'group':>6} {'fixed':>5} {'mult':>5} {'k':>3} {'maps':>6} {'blocks':>8} {'classes':>8} {'seconds':>8} {'ns/block':>9}")
+    print(f"{'group':>6} {'fixed':>5} {'mult':>5} {'k':>3} {'maps':>6} {'blocks':>8} {'orbits':>8} {'seconds':>8} {'ns/block':>9}")
     for size, mult, fixed, factors in PROBLEMS:
         blocks = math.comb(math.prod(factors) + fixed, size)
         counts = [unmoved(images, size) for images in all_maps(mult, fixed, factors)]
-        classes = sum(counts) // len(counts)
-        taken = min(seconds(program, [size, mult, fixed, *factors], (classes, blocks)) for _ in range(5))
+        orbits = sum(counts) // len(counts)
+        taken = min(seconds(program, [size, mult, fixed, *factors], (orbits, blocks)) for _ in range(5))
         group = " ".join(map(str, factors))
-        print(f"{group:>6} {fixed:>5} {mult:>5} {size:>3} {len(counts):>6} {blocks:>8} {classes:>8} {taken:>8.3f} {taken / blocks * 1e9:>9.1f}")
+        print(f"{group:>6} {fixed:>5} {mult:>5} {size:>3} {len(counts):>6} {blocks:>8} {orbits:>8} {taken:>8.3f} {taken / blocks * 1e9:>9.1f}")
 
 
 def main():

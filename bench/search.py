@@ -11,7 +11,9 @@ prints the number of nodes, entries and changed cells, which are those of the se
 """
 import pathlib, shutil, subprocess, sys, tempfile, time
 
-CRATES = {"df_steps": "", "df_walk": "arrayvec", "df_system": "df_steps df_walk", "df_search": "df_steps df_walk df_system"}
+import crates
+
+CRATES = ["df_steps", "df_walk", "df_system", "df_search"]
 
 SYSTEMS = (
     # rows, columns, cells of a column, factor
@@ -311,17 +313,11 @@ int main(int argc, char **argv) {
 
 
 def build(folder):
-    top = pathlib.Path(__file__).resolve().parent.parent
-    for name in CRATES:
-        shutil.copytree(top / "crates" / name, folder / "crates" / name)
-    own = folder / "crates" / "searches"
-    (own / "src").mkdir(parents=True)
+    own = crates.copy(folder, "searches", CRATES)
     (own / "src" / "main.rt").write_text(PROGRAM)
     for name, text in PROOFS.items():
         (own / "proofs" / name).mkdir(parents=True)
         (own / "proofs" / name / "Invariants.antt").write_text(text)
-    lines = [f"{name}: {uses}\n" for name, uses in CRATES.items()]
-    (folder / "crates.txt").write_text("".join(lines) + "searches: df_steps df_walk df_system df_search\n")
     print("proving and building; this takes some minutes", file=sys.stderr)
     subprocess.run(["rt", "run", "--", "0"], cwd=own, check=True, stdout=sys.stderr)
     return own / "out" / "searches"

@@ -88,4 +88,5 @@ def main():
         print(f"{name:26} {printed:8} {len(run.stdout):10} {base:7.3f} {each(base)} {short:7.3f} {each(short)} {table:7.3f}")
 
 
-main()
+if __name__ == "__main__":
+    main()

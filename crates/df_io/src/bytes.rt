@@ -1,8 +1,9 @@
 // All of a source, and all of a text.
-ghost use Rattle.std.specs.Prelude.{◌≡◌, ◌≤◌, ◌+◌, ◌^◌, ◌<◌, List, ℕ, length, take, IfOk, OnOk, OnErr, IsErrOf};
+ghost use Rattle.std.specs.Prelude.{◌≡◌, ◌≤◌, ◌+◌, ◌^◌, ◌<◌, List, ℕ, length, take, IfOk, OnOk, IsErrOf};
 ghost use Rattle.std.specs.Vec.{vec_len};
-ghost use Rattle.std.specs.Io.KnownBytes.{Consumes, Appends, IsAtEnd};
-ghost use Rattle.df_io.specs.Causes.{Rose, AppendsPart, ConsumesAtMost};
+ghost use Rattle.std.specs.Io.KnownBytes.{Consumes, IsAtEnd};
+ghost use Rattle.df_io.specs.Causes.{Rose, ConsumesAtMost};
+ghost use Rattle.df_io.specs.Writing.{Writes};
 ghost use Rattle.df_io.specs.declared.bytes.ReadError.TheVariants.{OutOfMemory};
 
 use crate::traits::{Failed, Sink, Source};
@@ -27,13 +28,16 @@ impl From<AllocError> for ReadError {
     }
 }
 
+/// The largest limit on an input that may be asked for: 4,294,967,296 bytes.
+pub const MOST_BYTES: u64 = 4_294_967_296;
+
 /// All bytes that are left of the input, which is read to its end. They are at most `limit`, and `limit` is at most
-/// 4,294,967,296.
+/// `MOST_BYTES`.
 ///
 /// `ReadFault` comes only where the source's count of faults rises in this call, or stands at its last value.
 /// `TooLong` comes exactly where `limit + 1` bytes came, and no more are read. `OutOfMemory` may come at any read.
 pub fn read_all<S: Source>(alloc: Global, input: &mut S, limit: u64) -> Result<Vec<u8>, ReadError>
-    requires { limit ≤ 2 ^ 32 }
+    requires { limit ≤ MOST_BYTES }
     ensures all { IfOk result (λ bytes. Consumes (S.left input.old) (S.left input.new) bytes.items) }
     ensures end { OnOk result (IsAtEnd (S.left input.new)) }
     ensures fits { IfOk result (λ bytes. vec_len bytes ≤ limit) }
@@ -59,18 +63,15 @@ pub fn read_all<S: Source>(alloc: Global, input: &mut S, limit: u64) -> Result<V
     Err(ReadError::TooLong)
 }
 
-/// A write failed. A front of the bytes may have been written before it, but never all of them.
+/// A write failed. A proper prefix of the bytes was written before it, which may be empty.
 #[derive(Clone, Copy, Debug, PartialEq, Eq)]
 pub struct WriteFault;
 
-/// Writes all of the bytes.
+/// Writes all of the bytes; or a proper prefix of them, where the sink fails.
 ///
 /// `WriteFault` comes only where the sink's count of faults rises in this call, or stands at its last value.
 pub fn write_all<K: Sink>(out: &mut K, bytes: &[u8]) -> Result<(), WriteFault>
-    ensures all { OnOk result (Appends (K.written out.old) (K.written out.new) bytes.now) }
-    ensures part { OnErr result (AppendsPart (K.written out.old) (K.written out.new) bytes.now) }
-    ensures fault { OnErr result (Rose (K.faults out.old) (K.faults out.new)) }
-    ensures later { K.faults out.old ≤ K.faults out.new }
+    ensures { Writes K.written K.faults out.old out.new bytes.now result }
 {
     let mut at = 0;
     while at < bytes.len() {

@@ -17,7 +17,7 @@ mod texts;
 mod tokens;
 mod traits;
 
-pub use bytes::{ReadError, WriteFault, read_all, write_all};
+pub use bytes::{MOST_BYTES, ReadError, WriteFault, read_all, write_all};
 pub use laws::{lines_are_read_back, numbers_are_read_back, tokens_are_read_back};
 pub use lines::{Line, Lines};
 pub use mem::{MemSink, MemSource};

@@ -5,6 +5,7 @@ pub mod HeldPairs
 pub mod KeptOrbits
 pub mod OrbitBlocks
 pub mod OrbitColumns
+pub mod OrbitNumbers
 pub mod ProblemMaps
 pub mod RowLists
 pub mod SparseColumns

@@ -24,7 +24,8 @@ all_members P [] all x i = absurd i
 all_members P (y ∷ ys) all x (inl e) = subst P e (all 0 x (omega arith))
 all_members P (y ∷ ys) all x (inr i) = all_members P ys (λ k d l. all (suc k) d (omega (arith, l))) x i
 
-word_subgroup : (s : Stated) → IsStated s → (word : Which) → IsWord s.names word → IsSubgroup s.group (subgroup_at s word)
+-- what a word of a statement names is a subgroup
+pub word_subgroup : (s : Stated) → IsStated s → (word : Which) → IsWord s.names word → IsSubgroup s.group (subgroup_at s word)
 word_subgroup s is which.All h = (range_with_len 0 (order_of s.group), (are_subgroups s.group is.shape).whole)
 word_subgroup s is which.Trivial h = ([], (are_subgroups s.group is.shape).trivial)
 word_subgroup s is (which.Named i) h = (is.names i ([], []) h).subgroup

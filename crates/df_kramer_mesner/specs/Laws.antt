@@ -1,12 +1,12 @@
 -- The laws, each the contract of a function.
-use Rattle.std.specs.Prelude.{◌≡◌, ◌<◌, ◌≤◌, ℕ, ◌+◌, ◌-◌, ◌*◌, ◌/◌, true, false, List, [], ◌∷◌, length, slice_index, slice_index_or, sum_by}
+use Rattle.std.specs.Prelude.{◌≡◌, ◌<◌, ◌≤◌, ℕ, ◌+◌, ◌-◌, ◌*◌, ◌/◌, true, false, List, [], ◌∷◌, length, slice_get, slice_index, slice_index_or, Some, sum_by}
 use Rattle.df_lists.specs.Membership.{In}
 use Rattle.df_lang.specs.Problems.{Stated, IsStated, IsBlock, point_count}
 use Rattle.df_walk.specs.declared.Cell.{Cell}
-use Rattle.df_walk.specs.Systems.{IsSystem, AreCells, entry_of}
-use Rattle.df_subsets.specs.Subsets.{binomial}
+use Rattle.df_walk.specs.Systems.{IsSystem, AreCells, entry_of, entry}
+use Rattle.df_subsets.specs.Subsets.{binomial, same_list}
 use Rattle.df_system.specs.Storage.{positive_cells}
-use Rattle.df_kramer_mesner.specs.OrbitSystems.{all_pairs, all_blocks, alike, has_alike, pairs_of, orbits_of, needed_of, pair_target, pair_entry, needed_entry, entries_of, targets_of, is_kept, pairs_within, row_size, orbit_size, orbit_system}
+use Rattle.df_kramer_mesner.specs.OrbitSystems.{all_pairs, all_blocks, alike, has_alike, pairs_of, orbits_of, needed_of, pair_target, pair_entry, needed_entry, entries_of, targets_of, is_kept, pairs_within, row_size, orbit_size, orbit_system, columns_of, entry_at, representative, orbit_number, column_at, column_number}
 
 -- the entry of a row and an orbit, times the pairs of the row's class, is the blocks of the orbit's class times the pairs of one of them that lie in the row's class
 pub record IsQuotient (s : Stated) (b pair : List ℕ) : Type 0 where
@@ -77,3 +77,23 @@ pub record AreSparse (s : Stated) : Type 0 where
 
 abbrev pub ColumnsAreSparse : Type 0
 ColumnsAreSparse = (s : Stated) → IsStated s → AreSparse s
+
+-- the entries of the system are the counts of the definition
+abbrev pub EntriesAreCounts : Type 0
+EntriesAreCounts = (s : Stated) (row column : ℕ) → row < length (targets_of s) → column < length (columns_of s) → entry (orbit_system s) row column ≡ entry_at s row (column_at s column)
+
+-- numbers tell orbits and columns
+pub record AreNumbered (s : Stated) : Type 0 where
+  -- the representative of a block is an orbit, stands at the block's number, and is the only orbit that is in one orbit with the block
+  pub listed : (b : List ℕ) → IsBlock (point_count s) s.sizes b → In (orbits_of s) (representative s b)
+  pub place : (b : List ℕ) → IsBlock (point_count s) s.sizes b → slice_get (orbits_of s) (orbit_number s b) ≡ Some (representative s b)
+  pub alone : (b c : List ℕ) → IsBlock (point_count s) s.sizes b → In (orbits_of s) c → alike s b c ≡ same_list (representative s b) c
+  -- a representative is its own, and has the number of its place
+  pub own : (b : List ℕ) → In (orbits_of s) b → representative s b ≡ b
+  pub orbit : (i : ℕ) (b : List ℕ) → slice_get (orbits_of s) i ≡ Some b → orbit_number s b ≡ i
+  -- a kept one has the number of its column
+  pub column : (i : ℕ) (b : List ℕ) → slice_get (columns_of s) i ≡ Some b → column_number s b ≡ Some i
+  pub kept : (i : ℕ) (b : List ℕ) → In (orbits_of s) b → column_number s b ≡ Some i → slice_get (columns_of s) i ≡ Some b
+
+abbrev pub OrbitsAreNumbered : Type 0
+OrbitsAreNumbered = (s : Stated) → IsStated s → AreNumbered s

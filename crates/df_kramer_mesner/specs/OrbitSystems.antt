@@ -1,13 +1,14 @@
 -- The orbit system of a problem: rows of pairs and of required orbits, and columns of orbits (Kramer and Mesner 1976, for t = 2).
-use Rattle.std.specs.Prelude.{ℕ, ◌&&◌, not, nat_le, Bool, List, ◌++◌, map, filter, slice_index, if◌then◌else◌}
+use Rattle.std.specs.Prelude.{ℕ, ◌&&◌, not, nat_le, Bool, List, [], ◌++◌, map, filter, slice_index, slice_index_or, Option, Some, None, if◌then◌else◌}
 use Rattle.std.specs.List.{list_any, list_all, zip}
 use Rattle.df_lists.specs.Membership.{count}
-use Rattle.df_subsets.specs.Subsets.{subsets, choose, candidates, same_list}
+use Rattle.df_subsets.specs.Subsets.{subsets, choose, candidates, same_list, place_of}
 use Rattle.df_acting.specs.Images.{holds}
 use Rattle.df_maps.specs.FullMaps.{MapGroup, maps_of}
 use Rattle.df_lang.specs.Problems.{Stated, point_count}
 use Rattle.df_lang.specs.Targets.{subgroup_at, target}
-use Rattle.df_orbits.specs.OrbitClasses.{are_alike, earliest_of, class_size}
+use Rattle.df_orbits.specs.OrbitClasses.{are_alike, earliest_alike, earliest_of, class_size}
+use Rattle.df_walk.specs.declared.Cell.{Cell}
 use Rattle.df_walk.specs.Systems.{System}
 use Rattle.df_system.specs.Storage.{positive_cells}
 
@@ -58,6 +59,13 @@ needed_entry b needed = if same_list b needed then 1 else 0
 abbrev pub entries_of : Stated → List ℕ → List ℕ
 entries_of s b = map (pair_entry s b) (pairs_of s) ++ map (needed_entry b) (needed_of s)
 
+-- the entry of a row, and all positive entries in the order of their rows
+abbrev pub entry_at : Stated → ℕ → List ℕ → ℕ
+entry_at s row b = slice_index (entries_of s b) row
+
+abbrev pub cells_of : Stated → List ℕ → List Cell
+cells_of s b = positive_cells 0 (entries_of s b)
+
 -- the targets of the rows
 abbrev pub targets_of : Stated → List ℕ
 targets_of s = map (pair_target s) (pairs_of s) ++ map (λ needed. 1) (needed_of s)
@@ -84,3 +92,31 @@ row_size s pair = class_size (maps_of_problem s) (all_pairs s) pair
 
 abbrev pub orbit_size : Stated → List ℕ → ℕ
 orbit_size s b = class_size (maps_of_problem s) (all_blocks s) b
+
+-- the representative of the orbit of a block, or of a pair
+abbrev pub representative : Stated → List ℕ → List ℕ
+representative s b = earliest_alike (maps_of_problem s) b
+
+-- the representatives of a row of pairs, of a needed orbit, of an orbit and of a column, by their numbers from 0
+abbrev pub pair_at : Stated → ℕ → List ℕ
+pair_at s row = slice_index_or (pairs_of s) row []
+
+abbrev pub needed_at : Stated → ℕ → List ℕ
+needed_at s needed = slice_index_or (needed_of s) needed []
+
+abbrev pub orbit_at : Stated → ℕ → List ℕ
+orbit_at s orbit = slice_index_or (orbits_of s) orbit []
+
+abbrev pub column_at : Stated → ℕ → List ℕ
+column_at s column = slice_index_or (columns_of s) column []
+
+-- the number of the row of a pair, and of the orbit of a block
+abbrev pub row_number : Stated → List ℕ → ℕ
+row_number s pair = place_of (representative s pair) (pairs_of s)
+
+abbrev pub orbit_number : Stated → List ℕ → ℕ
+orbit_number s b = place_of (representative s b) (orbits_of s)
+
+-- the number of the column of a representative, where its orbit is kept
+abbrev pub column_number : Stated → List ℕ → Option ℕ
+column_number s b = if is_kept s b then Some (place_of b (columns_of s)) else None

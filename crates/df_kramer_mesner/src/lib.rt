@@ -3,9 +3,10 @@
 //! The crates above cite the words of specs/OrbitSystems.antt, which are stated by lists, counts and single maps alone.
 #![tactic(auto)]
 
-ghost use Rattle.df_kramer_mesner.specs.Laws.{EntriesAreQuotients, OrbitSystemsAreSystems, CellsAreTold, RowsArePairsAndNeeded, OrbitsAreKept, NumbersAreFew, ColumnsAreSparse};
+ghost use Rattle.df_kramer_mesner.specs.Laws.{EntriesAreQuotients, OrbitSystemsAreSystems, CellsAreTold, RowsArePairsAndNeeded, OrbitsAreKept, NumbersAreFew, ColumnsAreSparse, EntriesAreCounts, OrbitsAreNumbered};
 
 use df_maps::{maps_are_groups, maps_are_made};
+use df_orbits::{places_are_found, representatives_tell_orbits};
 use df_subsets::{blocks_are_ordered, blocks_are_sets, candidates_are_all, subsets_are_all};
 
 /// The entry of a row of pairs and an orbit, times the number of pairs in the row's class, is the number of blocks in the orbit's class times the number of pairs of one of its blocks that lie in the row's class.
@@ -63,6 +64,23 @@ pub fn columns_are_sparse()
     blocks_are_ordered();
     subsets_are_all();
     candidates_are_all();
+}
+
+/// The entry of a row and a column of an orbit system is the number of blocks that the definition counts for them.
+pub fn entries_are_counts()
+    ensures { EntriesAreCounts }
+{}
+
+/// The number of a block's orbit is the place of its representative, which is the only one in one orbit with the block;
+/// and a kept orbit has the number of its column.
+pub fn orbits_are_numbered()
+    ensures { OrbitsAreNumbered }
+{
+    maps_are_made();
+    maps_are_groups();
+    blocks_are_sets();
+    representatives_tell_orbits();
+    places_are_found();
 }
 
 #[cfg(test)]

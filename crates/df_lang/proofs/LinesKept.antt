@@ -6,6 +6,7 @@ use Rattle.df_group.specs.Elements.{order_of, IsShape}
 use Rattle.df_lang.specs.declared.fault.SourceFault.{SourceFault}
 use Rattle.df_lang.specs.declared.fault.SourceFault.TheVariants.{BadWord, BadNumber, Missing}
 use Rattle.df_lang.specs.declared.fault.Needed.TheVariants as needed
+use Rattle.df_lang.specs.declared.problem.TheConstants.{NAMES_LIMIT}
 use Rattle.df_lang.specs.declared.parts.Which.{Which}
 use Rattle.df_lang.specs.declared.parts.Which.TheVariants as which
 use Rattle.df_lang.specs.declared.parts.Kind.TheVariants as kind
@@ -157,9 +158,11 @@ target_or : (n : ℕ) (o : Option ℕ) → IsTarget n → IfSome o IsTarget → 
 target_or n None low is = low
 target_or n (Some m) low is = is
 
-pub whole_kept : (a : Above) (ks : List ℕ) (n : ℕ) → Keeps a → a.sizes ≡ Some ks → a.lambda ≡ Some n → length a.names < 2 ^ 32 → IsStated record {
+-- what is stated at the end, with this group, these sizes and this target
+abbrev pub stated_of : Above → List ℕ → List ℕ → ℕ → Stated
+stated_of a fs ks n = record {
   version = version_of a;
-  group = shape_above a;
+  group = fs;
   fixed = fixed_of a;
   names = a.names;
   shift = unwrap_or a.shift which.All;
@@ -172,7 +175,9 @@ pub whole_kept : (a : Above) (ks : List ℕ) (n : ℕ) → Keeps a → a.sizes �
   required = a.required;
   forbidden = a.forbidden;
 }
-whole_kept a ks n k sized targeted few =
+
+end_kept : (a : Above) (ks : List ℕ) (n : ℕ) → Keeps a → a.sizes ≡ Some ks → a.lambda ≡ Some n → length a.names < NAMES_LIMIT → IsStated (stated_of a (shape_above a) ks n)
+end_kept a ks n k sized targeted few =
     let sizes = subst (λ o. IfSome o (SizesKept (version_of a) (points_above a))) sized k.sizes in
     let lambda = subst (λ o. IfSome o IsTarget) targeted k.lambda in
     let same : sizes_above a ≡ ks = ap (λ o. unwrap_or o []) sized in
@@ -203,6 +208,11 @@ whole_kept a ks n k sized targeted few =
       first_version = λ first. record { sizes = sizes.one first; required = blocks.none_required first; forbidden = blocks.none_forbidden first };
     }
 
-pub from_group_on : (a : Above) (fs : List ℕ) → StandsKept a → a.group ≡ Some fs → Keeps a
+from_group_on : (a : Above) (fs : List ℕ) → StandsKept a → a.group ≡ Some fs → Keeps a
 from_group_on a fs (inl early) h = let none = sym (ap (λ (x : Above). x.group) early.bare) ∙ h in absurd cc
 from_group_on a fs (inr k) h = k
+
+pub whole_kept : (a : Above) (fs ks : List ℕ) (n : ℕ) → StandsKept a → a.group ≡ Some fs → a.sizes ≡ Some ks → a.lambda ≡ Some n → length a.names < NAMES_LIMIT → IsStated (stated_of a fs ks n)
+whole_kept a fs ks n kept grouped sized targeted few =
+    let shape : shape_above a ≡ fs = ap (λ o. unwrap_or o []) grouped in
+    subst (λ gs. IsStated (stated_of a gs ks n)) shape (end_kept a ks n (from_group_on a fs kept grouped) sized targeted few)

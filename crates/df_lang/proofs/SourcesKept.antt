@@ -17,9 +17,9 @@ use Rattle.df_lang.specs.StandsAbove.{Above, nothing, group_of, sizes_of, lambda
 use Rattle.df_lang.specs.Values.{factors_from, subgroup_of, shift_of, mults_from, sizes_read, inside_of}
 use Rattle.df_lang.specs.Statements.{word_of, meaning, statement_line, first_line, version_line, step, group_line, fixed_line, subgroup_line, shift_line, mult_line, size_line, lambda_line, inside_line, hole_line, block_of, member_line, require_line, forbid_line}
 use Rattle.df_lang.specs.Sources.{source, from_line, at_line, whole}
-use Rattle.df_lang.specs.DraftRules.{shape_above, StandsKept}
+use Rattle.df_lang.specs.DraftRules.{StandsKept}
 use Rattle.df_lang.proofs.RulesKept.{bind_kept, there}
-use Rattle.df_lang.proofs.LinesKept.{nothing_kept, step_kept, whole_kept, from_group_on}
+use Rattle.df_lang.proofs.LinesKept.{nothing_kept, step_kept, stated_of, whole_kept}
 
 -- how many lines the group and the names have taken
 abbrev grouped : Option (List ℕ) → ℕ
@@ -121,30 +121,12 @@ line_taken a b (first ∷ tokens) h = by (is_none a.version) (bytes_eq first (co
   by true false h = statement_taken (record a { version = Some 1 }) b tokens first h
   by false v h = statement_taken a b tokens first h
 
-abbrev stated_of : Above → List ℕ → List ℕ → ℕ → Stated
-stated_of a fs ks n = record {
-  version = version_of a;
-  group = fs;
-  fixed = fixed_of a;
-  names = a.names;
-  shift = unwrap_or a.shift which.All;
-  mults = unwrap_or a.mults [];
-  sizes = ks;
-  lambda = n;
-  inside = a.inside;
-  hole = unwrap_or a.hole n;
-  family = a.family;
-  required = a.required;
-  forbidden = a.forbidden;
-}
-
 stated_kept : (a : Above) (fs ks : List ℕ) (n : ℕ) (s : Stated) → StandsKept a → taken a ≤ 2 ^ 32 → a.group ≡ Some fs → a.sizes ≡ Some ks → a.lambda ≡ Some n
     → ◌≡◌ {A = Result Stated SourceFault} (Ok (stated_of a fs ks n)) (Ok s) → IsStated s
 stated_kept a fs ks n s kept few group sized targeted h =
     let one : grouped a.group ≡ 1 = ap grouped group in
-    let shape : shape_above a ≡ fs = ap (λ o. unwrap_or o []) group in
     let is : stated_of a fs ks n ≡ s = cc in
-    subst IsStated (ap (λ gs. stated_of a gs ks n) shape ∙ is) (whole_kept a ks n (from_group_on a fs kept group) sized targeted (omega (arith, one, few)))
+    subst IsStated is (whole_kept a fs ks n kept group sized targeted (omega (arith, one, few)))
 
 end_kept : (a : Above) (s : Stated) → StandsKept a → taken a ≤ 2 ^ 32 → whole a ≡ Ok s → IsStated s
 unfolding whole

@@ -6,17 +6,16 @@ use Rattle.df_lang.specs.declared.fault.Stop.TheVariants.{Fault, OutOfMemory}
 use Rattle.df_lang.specs.declared.fault.ParseError.{ParseError}
 use Rattle.df_lang.specs.declared.fault.ParseError.TheVariants as told
 use Rattle.df_lang.specs.declared.draft.Draft.{Draft}
-use Rattle.df_lang.specs.declared.state.Reader.{Reader}
 use Rattle.df_lang.specs.Problems.{Stated}
-use Rattle.df_lang.specs.StandsAbove.{Above, nothing}
+use Rattle.df_lang.specs.StandsAbove.{Above}
 use Rattle.df_lang.specs.Stored.{named, items_of}
 use Rattle.df_lang.specs.Sources.{source, at_line, whole}
 
 -- what a draft holds
 abbrev pub above : Draft → Above
 above d = record {
-  version = Some d.version;
-  group = Some d.shape;
+  version = d.version;
+  group = d.group;
   fixed = d.fixed;
   names = map named d.names.entries;
   shift = d.shift;
@@ -30,37 +29,29 @@ above d = record {
   forbidden = d.forbidden.items;
 }
 
--- what the lines read so far state
-abbrev pub stated_by : Option ℕ → Option Draft → Above
-stated_by version None = record nothing { version = version }
-stated_by version (Some draft) = above draft
-
-abbrev pub stated_above : Reader → Above
-stated_above r = stated_by r.version r.draft
-
 -- the state that is meant, or the fault that is meant
 abbrev pub Goes : Result Above SourceFault → Above → Result (Unit {0}) SourceFault → Type 0
 Goes meant new result = MatchResult result (λ _. meant ≡ Ok new) (λ fault. meant ≡ Err fault)
 
--- the same, or want of memory
+-- the same, or out of memory
 abbrev pub GoesOn : Result Above SourceFault → Above → Result (Unit {0}) Stop → Type 0
 GoesOn meant new (Ok x) = meant ≡ Ok new
 GoesOn meant new (Err (Fault fault)) = meant ≡ Err fault
 GoesOn meant new (Err OutOfMemory) = ⊤
 
--- the items that are meant, or the fault that is meant, or want of memory
+-- the items that are meant, or the fault that is meant, or out of memory
 abbrev pub GivesItems : {A : Type 0} → Result (List ℕ) SourceFault → Result (Vec ℕ A) Stop → Type 0
 GivesItems meant (Ok v) = meant ≡ Ok v.items
 GivesItems meant (Err (Fault fault)) = meant ≡ Err fault
 GivesItems meant (Err OutOfMemory) = ⊤
 
--- the whole source as what stands above its end, or its first fault, or want of memory
-abbrev pub Reads : List ℕ → Result Reader ParseError → Type 0
-Reads bytes (Ok reader) = source bytes ≡ at_line 0 (whole (stated_above reader))
+-- the whole source as what stands above its end, or its first fault, or out of memory
+abbrev pub Reads : List ℕ → Result Draft ParseError → Type 0
+Reads bytes (Ok draft) = source bytes ≡ at_line 0 (whole (above draft))
 Reads bytes (Err (told.Refused e)) = source bytes ≡ Err e
 Reads bytes (Err told.OutOfMemory) = ⊤
 
--- the whole source as a problem, or its first fault, or want of memory
+-- the whole source as a problem, or its first fault, or out of memory
 abbrev pub Parses : List ℕ → Result Stated ParseError → Type 0
 Parses bytes (Ok problem) = source bytes ≡ Ok problem
 Parses bytes (Err (told.Refused e)) = source bytes ≡ Err e

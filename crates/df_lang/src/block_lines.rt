@@ -13,23 +13,21 @@ use df_io::Tokens;
 use df_subsets::Block;
 
 impl Draft {
-    // A block, where so many of its kind stand above.
+    // A block, where a number of its kind stand above.
     #[tactic(auto, unfolding(crate::specs::Statements::block_of))]
     fn block(&self, count: usize, tokens: &mut Tokens<'_>) -> Result<Block, SourceFault>
         ensures { result ≡ block_of (above self.now) count (left tokens.old) }
     {
+        let Some(shape) = &self.group else {
+            return Err(SourceFault::Missing(Needed::Group));
+        };
         let Some(sizes) = &self.sizes else {
             return Err(SourceFault::Missing(Needed::Size));
         };
         if count >= MOST_BLOCKS {
             return Err(SourceFault::TooManyBlocks);
         }
-        block(
-            &self.shape,
-            self.fixed.unwrap_or(0),
-            sizes.as_slice(),
-            tokens,
-        )
+        block(shape, self.fixed.unwrap_or(0), sizes.as_slice(), tokens)
     }
 
     /// The line of `base` or `short`.
@@ -38,10 +36,8 @@ impl Draft {
         ensures { GoesOn (member_line (above self.old) kind (left tokens.old)) (above self.new) result }
     {
         let block = self.block(self.family.len(), tokens)?;
-        match self.family.push(Member { kind, block }) {
-            Ok(()) => Ok(()),
-            Err(_) => Err(Stop::OutOfMemory),
-        }
+        self.family.push(Member { kind, block })?;
+        Ok(())
     }
 
     /// The line of `require`.
@@ -50,10 +46,8 @@ impl Draft {
         ensures { GoesOn (require_line (above self.old) (left tokens.old)) (above self.new) result }
     {
         let block = self.block(self.stated_blocks(), tokens)?;
-        match self.required.push(block) {
-            Ok(()) => Ok(()),
-            Err(_) => Err(Stop::OutOfMemory),
-        }
+        self.required.push(block)?;
+        Ok(())
     }
 
     /// The line of `forbid`.
@@ -62,10 +56,8 @@ impl Draft {
         ensures { GoesOn (forbid_line (above self.old) (left tokens.old)) (above self.new) result }
     {
         let block = self.block(self.stated_blocks(), tokens)?;
-        match self.forbidden.push(block) {
-            Ok(()) => Ok(()),
-            Err(_) => Err(Stop::OutOfMemory),
-        }
+        self.forbidden.push(block)?;
+        Ok(())
     }
 
     // How many blocks are required or forbidden.

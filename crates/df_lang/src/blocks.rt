@@ -9,7 +9,7 @@ use crate::elements::point;
 use crate::fault::SourceFault;
 use df_group::Shape;
 use df_io::Tokens;
-use df_subsets::{Block, Point};
+use df_subsets::Block;
 
 /// The block of the points that are left of a line, with one of the sizes.
 #[tactic(auto, unfolding(crate::specs::Values::points_from))]
@@ -27,10 +27,10 @@ pub(crate) fn block(
         let Some(p) = point(shape, fixed, token) else {
             return Err(SourceFault::BadElement);
         };
-        if block.has(Point(p)) {
+        if block.has(p) {
             return Err(SourceFault::PointTwice);
         }
-        block.insert(Point(p));
+        block.insert(p);
     }
     if has_size(sizes, block.size()) {
         Ok(block)

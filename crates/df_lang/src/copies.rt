@@ -11,7 +11,7 @@ use crate::problem::Problem;
 use arrayvec::ArrayVec;
 use df_group::Subgroup;
 use indexmap::IndexMap;
-use std::alloc::{AllocError, Global};
+use std::alloc::Global;
 
 impl Problem {
     /// The same problem once more. The error comes where memory is wanted and not there.
@@ -89,8 +89,6 @@ fn copy_entry(
     let Some((key, subgroup)) = names.get_index(place) else {
         unreachable!()
     };
-    match copy.insert(name(key.as_slice()), *subgroup) {
-        Ok(_) => Ok(()),
-        Err(_) => Err(AllocError),
-    }
+    copy.insert(name(key.as_slice()), *subgroup)?;
+    Ok(())
 }

@@ -6,10 +6,11 @@ ghost use Rattle.df_lang.specs.Values.{element_of, fixed_point as meant_fixed, p
 ghost use Rattle.df_lang.specs.Pieces.{parts_left};
 
 use crate::tokens::number;
-use df_group::Shape;
+use df_group::{Elem, Shape};
+use df_subsets::Point;
 
-/// The number of the element that a token names.
-pub(crate) fn element(shape: &Shape, token: &[u8]) -> Option<u8>
+/// The element that a token names.
+pub(crate) fn element(shape: &Shape, token: &[u8]) -> Option<Elem>
     ensures value { result ≡ element_of shape.now token.now }
     ensures below { IfSome result (λ e. e < order_of shape.now) }
 {
@@ -29,23 +30,23 @@ pub(crate) fn element(shape: &Shape, token: &[u8]) -> Option<u8>
     if rest.is_some() {
         return None;
     }
-    Some(place as u8)
+    Some(Elem(place as u8))
 }
 
-/// The number of the point that a token names, where so many fixed points are stated.
-pub(crate) fn point(shape: &Shape, fixed: u8, token: &[u8]) -> Option<u8>
+/// The point that a token names, where this number of fixed points is stated.
+pub(crate) fn point(shape: &Shape, fixed: u8, token: &[u8]) -> Option<Point>
     requires { order_of shape.now + fixed ≤ 128 }
     ensures value { result ≡ point_of shape.now fixed token.now }
     ensures below { IfSome result (λ p. p < order_of shape.now + fixed) }
 {
     match element(shape, token) {
-        Some(e) => Some(e),
+        Some(e) => Some(Point(e.0)),
         None => fixed_point(shape, fixed, token),
     }
 }
 
 #[tactic(auto, unfolding(crate::specs::Values::fixed_point))]
-fn fixed_point(shape: &Shape, fixed: u8, token: &[u8]) -> Option<u8>
+fn fixed_point(shape: &Shape, fixed: u8, token: &[u8]) -> Option<Point>
     requires { order_of shape.now + fixed ≤ 128 }
     ensures value { result ≡ meant_fixed shape.now fixed token.now }
     ensures below { IfSome result (λ p. p < order_of shape.now + fixed) }
@@ -59,7 +60,7 @@ fn fixed_point(shape: &Shape, fixed: u8, token: &[u8]) -> Option<u8>
     if n < 1 || n > u64::from(fixed) {
         return None;
     }
-    Some(shape.order() + (n as u8 - 1))
+    Some(Point(shape.order() + (n as u8 - 1)))
 }
 
 // The text before the first comma, and the text after it.

@@ -26,9 +26,7 @@ pub(crate) fn elements(
         let Some(e) = element(shape, token) else {
             return Err(Stop::Fault(SourceFault::BadElement));
         };
-        if elements.push(Elem(e)).is_err() {
-            return Err(Stop::OutOfMemory);
-        }
+        elements.push(e)?;
     }
     Ok(elements)
 }

@@ -13,8 +13,5 @@ pub fn read_point(problem: &Problem, token: &[u8]) -> Option<Point>
     ensures point { result ≡ point_of problem.now.group problem.now.fixed token.now }
     ensures below { IfSome result (λ p. p < point_count problem.now) }
 {
-    match point(&problem.shape, problem.fixed, token) {
-        Some(number) => Some(Point(number)),
-        None => None,
-    }
+    point(&problem.shape, problem.fixed, token)
 }

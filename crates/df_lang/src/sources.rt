@@ -1,6 +1,6 @@
 // Reads a whole source.
 ghost use Rattle.std.specs.Prelude.{◌≡◌};
-ghost use Rattle.df_lang.specs.Drafts.{above, stated_above, Parses};
+ghost use Rattle.df_lang.specs.Drafts.{above, Parses};
 ghost use Rattle.df_lang.specs.DraftRules.{StandsKept};
 ghost use Rattle.df_lang.specs.Sources.{whole};
 
@@ -9,7 +9,6 @@ use crate::fault::{Needed, ParseError, SourceError, SourceFault};
 use crate::parts::Which;
 use crate::problem::Problem;
 use crate::reader::read_lines;
-use crate::state::Reader;
 use arrayvec::ArrayVec;
 use std::alloc::Global;
 
@@ -18,8 +17,8 @@ use std::alloc::Global;
 pub fn parse(alloc: Global, source: &[u8]) -> Result<Problem, ParseError>
     ensures { Parses source.now result }
 {
-    let reader = read_lines(alloc, source)?;
-    match finish(reader) {
+    let draft = read_lines(alloc, source)?;
+    match finish(draft) {
         Ok(problem) => Ok(problem),
         Err(fault) => Err(ParseError::Refused(SourceError { line: 0, fault })),
     }
@@ -27,25 +26,13 @@ pub fn parse(alloc: Global, source: &[u8]) -> Result<Problem, ParseError>
 
 // The end of a source: what is needed, and what holds where nothing is stated.
 #[tactic(auto, unfolding(crate::specs::Sources::whole))]
-fn finish(reader: Reader) -> Result<Problem, SourceFault>
-    requires { StandsKept (stated_above reader) }
-    ensures { result ≡ whole (stated_above reader) }
-{
-    let Reader { version: _, draft } = reader;
-    match draft {
-        Some(draft) => finish_draft(draft),
-        None => Err(SourceFault::Missing(Needed::Group)),
-    }
-}
-
-#[tactic(auto, unfolding(crate::specs::Sources::whole))]
-fn finish_draft(draft: Draft) -> Result<Problem, SourceFault>
+fn finish(draft: Draft) -> Result<Problem, SourceFault>
     requires { StandsKept (above draft) }
     ensures { result ≡ whole (above draft) }
 {
     let Draft {
         version,
-        shape,
+        group,
         fixed,
         names,
         shift,
@@ -58,6 +45,9 @@ fn finish_draft(draft: Draft) -> Result<Problem, SourceFault>
         required,
         forbidden,
     } = draft;
+    let Some(shape) = group else {
+        return Err(SourceFault::Missing(Needed::Group));
+    };
     let Some(sizes) = sizes else {
         return Err(SourceFault::Missing(Needed::Size));
     };
@@ -65,7 +55,7 @@ fn finish_draft(draft: Draft) -> Result<Problem, SourceFault>
         return Err(SourceFault::Missing(Needed::Lambda));
     };
     Ok(Problem {
-        version,
+        version: version.unwrap_or(1),
         shape,
         fixed: fixed.unwrap_or(0),
         names,

@@ -1,25 +1,50 @@
 // Takes the statements of a source, one by one.
-ghost use Rattle.std.specs.Prelude.{◌≡◌, ◌∷◌, ◌++◌, ◌≤◌, [], length, map, None, Ok};
+ghost use Rattle.std.specs.Prelude.{◌≡◌, ◌∷◌, ◌++◌, ◌≤◌, [], length, map, None, Ok, Err, MatchResult};
 ghost use Rattle.df_io.specs.Lines.{left};
 ghost use Rattle.df_lang.specs.Drafts.{above, Goes, GoesOn};
+ghost use Rattle.df_lang.specs.StandsAbove.{group_of};
 ghost use Rattle.df_lang.specs.Stored.{named};
 ghost use Rattle.df_lang.specs.Values.{place_of};
-ghost use Rattle.df_lang.specs.Statements.{fixed_line, subgroup_line, shift_line, mult_line, size_line, lambda_line, inside_line, hole_line};
+ghost use Rattle.df_lang.specs.Statements.{group_line, fixed_line, subgroup_line, shift_line, mult_line, size_line, lambda_line, inside_line, hole_line};
 
 use crate::draft::Draft;
-use crate::fault::{SourceFault, Stop};
+use crate::fault::{Needed, SourceFault, Stop};
 use crate::generators::elements;
+use crate::groups::group;
 use crate::lookups::{new_name, which};
 use crate::multipliers::multipliers;
 use crate::parts::{Inside, Name};
 use crate::problem::{MOST_TARGET, NAMES_LIMIT};
 use crate::sizes::{size_list, sizes};
 use crate::tokens::{end, needed, number_in, one_number};
-use df_group::Subgroup;
+use df_group::{Shape, Subgroup};
 use df_io::Tokens;
 use std::alloc::Global;
 
 impl Draft {
+    /// The line of `group`.
+    #[tactic(auto, unfolding(crate::specs::Statements::group_line))]
+    pub(crate) fn group(&mut self, tokens: &mut Tokens<'_>) -> Result<(), SourceFault>
+        ensures { Goes (group_line (above self.old) (left tokens.old)) (above self.new) result }
+    {
+        if self.group.is_some() {
+            return Err(SourceFault::Repeated);
+        }
+        let shape = group(tokens)?;
+        self.group = Some(shape);
+        Ok(())
+    }
+
+    // The group, which has to stand above.
+    fn shape(&self) -> Result<&Shape, SourceFault>
+        ensures { MatchResult result (λ shape. group_of (above self.now) ≡ Ok shape.now) (λ fault. group_of (above self.now) ≡ Err fault) }
+    {
+        match &self.group {
+            Some(shape) => Ok(shape),
+            None => Err(SourceFault::Missing(Needed::Group)),
+        }
+    }
+
     /// The line of `fixed`.
     #[tactic(auto, unfolding(crate::specs::Statements::fixed_line))]
     pub(crate) fn fixed(&mut self, tokens: &mut Tokens<'_>) -> Result<(), SourceFault>
@@ -28,7 +53,7 @@ impl Draft {
         if self.fixed.is_some() {
             return Err(SourceFault::Repeated);
         }
-        let most = (128 - self.shape.order()).min(16);
+        let most = (128 - self.shape()?.order()).min(16);
         let fixed = one_number(0, u64::from(most), SourceFault::FixedRange, tokens)?;
         self.fixed = Some(fixed as u8);
         Ok(())
@@ -39,10 +64,11 @@ impl Draft {
     pub(crate) fn subgroup(&mut self, alloc: Global, tokens: &mut Tokens<'_>) -> Result<(), Stop>
         ensures { GoesOn (subgroup_line (above self.old) (left tokens.old)) (above self.new) result }
     {
+        let shape = self.shape()?;
         let token = needed(tokens)?;
         let name = new_name(&self.names, token)?;
-        let elements = elements(alloc, &self.shape, tokens)?;
-        let subgroup = Subgroup::generate(&self.shape, elements.as_slice());
+        let elements = elements(alloc, shape, tokens)?;
+        let subgroup = Subgroup::generate(shape, elements.as_slice());
         self.add_subgroup(name, subgroup)
     }
 
@@ -55,10 +81,8 @@ impl Draft {
         if self.names.len() >= NAMES_LIMIT - 1 {
             return Err(Stop::OutOfMemory);
         }
-        match self.names.insert(name, subgroup) {
-            Ok(_) => Ok(()),
-            Err(_) => Err(Stop::OutOfMemory),
-        }
+        self.names.insert(name, subgroup)?;
+        Ok(())
     }
 
     /// The line of `shift`.
@@ -69,6 +93,7 @@ impl Draft {
         if self.shift.is_some() {
             return Err(SourceFault::Repeated);
         }
+        self.shape()?;
         let token = needed(tokens)?;
         let subgroup = which(&self.names, token)?;
         end(tokens)?;
@@ -84,7 +109,7 @@ impl Draft {
         if self.mults.is_some() {
             return Err(SourceFault::Repeated);
         }
-        let mults = multipliers(&self.shape, tokens)?;
+        let mults = multipliers(self.shape()?, tokens)?;
         self.mults = Some(mults);
         Ok(())
     }
@@ -97,8 +122,8 @@ impl Draft {
         if self.sizes.is_some() {
             return Err(SourceFault::Repeated);
         }
-        let points = self.shape.order() + self.fixed.unwrap_or(0);
-        let set = sizes(self.version, u64::from(points.min(16)), tokens)?;
+        let points = self.shape()?.order() + self.fixed.unwrap_or(0);
+        let set = sizes(self.version.unwrap_or(1), u64::from(points.min(16)), tokens)?;
         self.sizes = Some(size_list(&set));
         Ok(())
     }
@@ -111,6 +136,7 @@ impl Draft {
         if self.lambda.is_some() {
             return Err(SourceFault::Repeated);
         }
+        self.shape()?;
         let target = one_number(0, MOST_TARGET, SourceFault::TargetRange, tokens)?;
         self.lambda = Some(target as u32);
         Ok(())
@@ -124,6 +150,7 @@ impl Draft {
         if self.inside.is_some() {
             return Err(SourceFault::Repeated);
         }
+        self.shape()?;
         let first = needed(tokens)?;
         let subgroup = which(&self.names, first)?;
         let second = needed(tokens)?;
@@ -144,6 +171,7 @@ impl Draft {
         if self.hole.is_some() {
             return Err(SourceFault::Repeated);
         }
+        self.shape()?;
         let target = one_number(0, MOST_TARGET, SourceFault::TargetRange, tokens)?;
         self.hole = Some(target as u32);
         Ok(())

@@ -1,14 +1,13 @@
 -- The entries of rows among cells that stand in the order of their rows.
 use Rattle.std.proofs.Common.{◌≡◌, ℕ, zero, suc, ◌+◌, ◌<◌, ◌≤◌, map, drop, List, [], ◌∷◌, length, get_or, refl, sym, ap, ◌∙◌, subst, arith, inl, inr, ⊎_elim, eq-eqb}
 use Rattle.std.specs.List.Sorted.{IsStrictlyIncreasing}
-use Rattle.std.proofs.lemmas.Bool.{cases_eq, ne_eqb, lt-ltb}
+use Rattle.std.proofs.lemmas.Bool.{cases_eq, ne_eqb}
 use Rattle.std.proofs.lemmas.List.{drop_more}
 use Rattle.std.proofs.lemmas.Option.{slice_get-get_or}
 use Rattle.df_lists.specs.Membership.{In}
 use Rattle.df_walk.specs.declared.Cell.{Cell}
 use Rattle.df_walk.specs.Systems.{AreCells, entry_of}
-use Rattle.df_system.specs.Storage.{positive_cells}
-use Rattle.df_matrix.proofs.ClassParts.{In-slice_get}
+use Rattle.df_kramer_mesner.proofs.OrbitNumbers.{In-slice_get}
 
 -- the rows rise from `low` on
 abbrev pub Rising : ℕ → List Cell → Type 0
@@ -78,23 +77,3 @@ module _ (f : ℕ → ℕ → ℕ) (none : (row : ℕ) → f row 0 ≡ 0) where
 
   pub entry_changed : (n row : ℕ) (cells : List Cell) → AreCells n cells → entry_of (map changed cells) row ≡ f row (entry_of cells row)
   entry_changed n row cells are = changed_from 0 row cells (rising_all n cells are)
-
-positive_absent : (m row : ℕ) (es : List ℕ) → row < m → entry_of (positive_cells m es) row ≡ 0
-positive_absent m row [] h = refl
-positive_absent m row (zero ∷ es) h = positive_absent (m + 1) row es (omega (arith, h))
-positive_absent m row (suc e ∷ es) h = positive_one (positive_absent (m + 1) row es (omega (arith, h)))
-  where
-    positive_one : entry_of (positive_cells (m + 1) es) row ≡ 0 → entry_of (positive_cells m (suc e ∷ es)) row ≡ 0
-    positive_one ih = rw (lt-ltb 0 (suc e) (omega arith)) (rw (ne_eqb m row (λ e. absurd (omega (arith, e, h)))) (omega (arith, ih)))
-
--- the entry of a row is found among the positive ones
-pub positive_entry : (m i : ℕ) (es : List ℕ) → i < length es → entry_of (positive_cells m es) (m + i) ≡ get_or es i 0
-positive_entry m i [] h = absurd (omega (arith, h))
-positive_entry m zero (zero ∷ es) h = positive_absent (m + 1) (m + 0) es (omega arith)
-positive_entry m zero (suc e ∷ es) h =
-    let rest = positive_absent (m + 1) (m + 0) es (omega arith) in
-    rw (lt-ltb 0 (suc e) (omega arith)) (rw (eq-eqb m (m + 0) (omega arith)) (omega (arith, rest)))
-positive_entry m (suc i) (zero ∷ es) h = ap (entry_of (positive_cells (m + 1) es)) {x = m + suc i} {y = m + 1 + i} (omega arith) ∙ positive_entry (m + 1) i es (omega (arith, h))
-positive_entry m (suc i) (suc e ∷ es) h =
-    let rest = ap (entry_of (positive_cells (m + 1) es)) {x = m + suc i} {y = m + 1 + i} (omega arith) ∙ positive_entry (m + 1) i es (omega (arith, h)) in
-    rw (lt-ltb 0 (suc e) (omega arith)) (rw (ne_eqb m (m + suc i) (λ x. absurd (omega (arith, x)))) (omega (arith, rest)))

@@ -1,8 +1,7 @@
 mod AllCells
 mod CellEntries
 mod CellTests
-mod ClassParts
-mod EntryReads
+mod OrbitParts
 mod MarkLists
 mod NeededCells
 mod OrbitCells
@@ -10,7 +9,6 @@ mod PairLists
 mod PlaceLists
 mod RisingCells
 mod RowLists
-mod StoredColumns
 mod SubsetLimits
 mod SystemColumns
 mod Tallies

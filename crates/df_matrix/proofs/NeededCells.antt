@@ -9,21 +9,9 @@ use Rattle.df_subsets.specs.Blocks.{before}
 use Rattle.df_subsets.specs.Subsets.{same_list}
 use Rattle.df_system.specs.Storage.{positive_cells}
 use Rattle.df_kramer_mesner.specs.OrbitSystems.{needed_entry}
-use Rattle.df_matrix.proofs.ClassParts.{In-slice_get}
+use Rattle.df_kramer_mesner.proofs.OrbitNumbers.{In-slice_get}
 
-pub positive_append : (m : ℕ) (xs ys : List ℕ) → positive_cells m (xs ++ ys) ≡ positive_cells m xs ++ positive_cells (m + length xs) ys
-positive_append m [] ys = ap (λ k. positive_cells k ys) {x = m} {y = m + 0} (omega arith)
-positive_append m (x ∷ xs) ys =
-    let ih = positive_append (m + 1) xs ys ∙ ap (λ k. positive_cells (m + 1) xs ++ positive_cells k ys) {x = m + 1 + length xs} {y = m + suc (length xs)} (omega arith) in
-    step x ih
-  where
-    step : (x : ℕ) → positive_cells (m + 1) (xs ++ ys) ≡ positive_cells (m + 1) xs ++ positive_cells (m + suc (length xs)) ys → positive_cells m (x ∷ (xs ++ ys)) ≡ positive_cells m (x ∷ xs) ++ positive_cells (m + suc (length xs)) ys
-    step zero ih = ih
-    step (suc x) ih =
-        let one = lt-ltb 0 (suc x) (omega arith) in
-        rw (one) (ap (λ l. record { row = m; value = suc x } ∷ l) ih)
-
-pub not_true : (b : Bool) → (b ≡ true → ⊥) → b ≡ false
+not_true : (b : Bool) → (b ≡ true → ⊥) → b ≡ false
 not_true true h = absurd (h refl)
 not_true false h = refl
 
@@ -55,20 +43,3 @@ module _ (E : IsEquality same_list) (O : IsOrder before) (b : List ℕ) where
       let differs : same_list b c ≡ false = not_true (same_list b c) (λ t. apart_back c (sorted.0 b (In-slice_get needed k b h)) (E.same b c t)) in
       let rest = own_row (m + 1) k needed sorted.1 h in
       rw differs (rest ∙ ap (λ r. record { row = r; value = 1 } ∷ []) {x = m + 1 + k} {y = m + suc k} (omega arith))
-
--- part of a sorted list is sorted
-pub sorted_part : {X : Type 0} (earlier : X → X → Bool) (t : X → Bool) (xs : List X) → IsSorted earlier xs → IsSorted earlier (filter t xs)
-sorted_part earlier t [] s = tt
-sorted_part {X = X} earlier t (x ∷ xs) s = part (t x) (sorted_part earlier t xs s.1)
-  where
-    part : (b : Bool) → IsSorted earlier (filter t xs) → IsSorted earlier (cond b (x ∷ filter t xs) (filter t xs))
-    part true h = (λ y i. s.0 y (In-filter_gives t xs y i).0, h)
-    part false h = h
-
--- two places of a sorted list with one member are one
-pub sorted_once : {X : Type 0} (earlier : X → X → Bool) → IsOrder earlier → (xs : List X) (i j : ℕ) (x : X) → IsSorted earlier xs → slice_get xs i ≡ Some x → slice_get xs j ≡ Some x → i ≡ j
-sorted_once earlier O [] i j x s h k = absurd (let e = h in cc)
-sorted_once earlier O (y ∷ xs) zero zero x s h k = refl
-sorted_once earlier O (y ∷ xs) zero (suc j) x s h k = absurd (false≢true (sym (O.unlike x) ∙ subst (λ z. earlier z x ≡ true) (same_Some y x h) (s.0 x (In-slice_get xs j x k))))
-sorted_once earlier O (y ∷ xs) (suc i) zero x s h k = absurd (false≢true (sym (O.unlike x) ∙ subst (λ z. earlier z x ≡ true) (same_Some y x k) (s.0 x (In-slice_get xs i x h))))
-sorted_once earlier O (y ∷ xs) (suc i) (suc j) x s h k = ap suc (sorted_once earlier O xs i j x s.1 h k)

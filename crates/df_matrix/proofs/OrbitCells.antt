@@ -17,7 +17,7 @@ use Rattle.df_walk.specs.Systems.{AreCells, entry_of}
 use Rattle.df_kramer_mesner.specs.OrbitSystems.{maps_of_problem, all_pairs, all_blocks, pairs_of, pairs_within, row_size, orbit_size, pair_entry}
 use Rattle.df_kramer_mesner.specs.Laws.{EntriesAreQuotients, CellsAreTold, IsQuotient}
 use Rattle.df_matrix.specs.MatrixParts.{AreRowsOf, quotient_cell, pair_cells}
-use Rattle.df_matrix.proofs.ClassParts.{In-slice_get}
+use Rattle.df_kramer_mesner.proofs.OrbitNumbers.{In-slice_get}
 use Rattle.df_matrix.proofs.CellEntries.{entry_at, entry_changed}
 use Rattle.df_matrix.proofs.Tallies.{IsTally}
 

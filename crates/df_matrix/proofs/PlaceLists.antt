@@ -6,7 +6,7 @@ use Rattle.std.specs.List.Sorted.{IsStrictlyIncreasing}
 use Rattle.std.proofs.lemmas.List.{length-map, get_or-map}
 use Rattle.std.proofs.lemmas.List.Kept.{IsStrictlyIncreasing-filter}
 use Rattle.std.proofs.lemmas.List.FromFn.{get_or-range_with_len, length-range_with_len}
-use Rattle.std.proofs.lemmas.Option.{slice_get-map, slice_get-get_or, slice_get_read}
+use Rattle.std.proofs.lemmas.Option.{slice_get-map, slice_get-get_or, slice_get_read, get_or_from_slice_get}
 use Rattle.std.proofs.lemmas.Bool.{cases_lt}
 use Rattle.std.proofs.lemmas.Map.Keys.{below_from_sorted, sorted_from_strictly_increasing}
 use Rattle.df_lists.specs.Membership.{In}
@@ -14,8 +14,9 @@ use Rattle.df_lists.proofs.RangeLaws.{filter_more}
 use Rattle.df_lists.specs.NumberSets.{IsSet, has_member}
 use Rattle.df_lists.proofs.MemberLaws.{In-filter, In-filter_gives, In-range, In-range_gives}
 use Rattle.df_lists.proofs.TestLaws.{filter_agree}
+use Rattle.df_orbits.proofs.ClassNumbers.{In-place}
 use Rattle.df_matrix.specs.MatrixParts.{places_where}
-use Rattle.df_matrix.proofs.ClassParts.{In-slice_get}
+use Rattle.df_kramer_mesner.proofs.OrbitNumbers.{In-slice_get}
 
 range_rises : (a n : ℕ) → IsStrictlyIncreasing (range_with_len a n)
 range_rises a n k h = let l = length-range_with_len a n in let x = get_or-range_with_len a n k 0 (omega (arith, h, l)) in let y = get_or-range_with_len a n (k + 1) 0 (omega (arith, h, l)) in omega (arith, x, y)
@@ -88,15 +89,10 @@ increasing_order xs up i j h l = ⊎_elim (λ less. let e = below_from_sorted xs
     at_most : {a b : ℕ} → a ≡ b → a ≤ b
     at_most e = omega (arith, e)
 
-pub In_place : (xs : List ℕ) (x : ℕ) → In xs x → (k : ℕ) × (k < length xs) × (get_or xs k 0 ≡ x)
-In_place [] x i = absurd i
-In_place (y ∷ xs) x (inl e) = (0, omega arith, e)
-In_place (y ∷ xs) x (inr i) = let r = In_place xs x i in (suc r.0, omega (arith, r.1), r.2)
-
 -- where no number is the one that was looked for
 pub not_listed : (xs : List ℕ) (x r : ℕ) → ((k : ℕ) → k < r → get_or xs k 0 < x) → ((k : ℕ) → r ≤ k → k < length xs → x < get_or xs k 0) → In xs x → ⊥
 not_listed xs x r below above i =
-    let p = In_place xs x i in
+    let p = In-place xs x 0 i in
     ⊎_elim (λ less. let e = below p.0 less in omega (arith, e, p.2)) (λ more. let e = above p.0 more p.1 in omega (arith, e, p.2)) (cases_lt p.0 r)
 
 -- a set's members increase
@@ -108,3 +104,8 @@ pub read_place : (test : List ℕ → Bool) (blocks : List (List ℕ)) (numbers 
 read_place test blocks numbers k x e h read =
     let at : slice_get (places_where test blocks) k ≡ Some x = ap (λ l. slice_get l k) (sym e) ∙ slice_get_read numbers (length numbers) k x refl h read in
     ((place_passes test blocks x (In-slice_get (places_where test blocks) k x at)).0, block_at_place test blocks k x at)
+
+pub read_block : (test : List ℕ → Bool) (blocks : List (List ℕ)) (numbers : List ℕ) (k x : ℕ) → numbers ≡ places_where test blocks → k < length numbers → x ≡ get_or numbers k x → get_or (filter test blocks) k [] ≡ get_or blocks x []
+read_block test blocks numbers k x e h read =
+    let r = read_place test blocks numbers k x e h read in
+    get_or_from_slice_get (filter test blocks) k (get_or blocks x []) [] (r.1 ∙ slice_get-get_or blocks x [] r.0)

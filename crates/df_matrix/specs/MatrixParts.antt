@@ -10,11 +10,11 @@ use Rattle.df_orbits.specs.OrbitClasses.{pair_classes, block_classes}
 use Rattle.df_matrix.specs.declared.matrix.TheConstants.{MOST_COLUMNS}
 use Rattle.df_walk.specs.declared.Cell.{Cell}
 use Rattle.df_walk.specs.Systems.{System}
-use Rattle.df_system.specs.Storage.{positive_cells, AreStarts, columns_of}
-use Rattle.df_kramer_mesner.specs.OrbitSystems.{maps_of_problem, alike, all_blocks, pairs_of, orbits_of, has_alike, row_size, pair_entry, entries_of, is_kept, orbit_system}
+use Rattle.df_system.specs.Storage.{positive_cells}
+use Rattle.df_kramer_mesner.specs.OrbitSystems.{maps_of_problem, alike, all_blocks, pairs_of, orbits_of, pair_at, has_alike, row_size, pair_entry, is_kept, orbit_system}
 
--- the maps, the classes of pairs and of blocks, and the maps of the table of pairs, are those of the problem, and there are few blocks
-pub record AreClasses (s : Stated) (maps : MapGroup) (pairs : List (List ℕ × ℕ)) (numbers : MapGroup) (orbits : List (List ℕ × ℕ)) : Type 0 where
+-- the maps, the orbits of pairs and of blocks, and the maps of the numbers of pairs, are those of the problem, and there are few blocks
+pub record AreOrbits (s : Stated) (maps : MapGroup) (pairs : List (List ℕ × ℕ)) (numbers : MapGroup) (orbits : List (List ℕ × ℕ)) : Type 0 where
   pub maps_are : maps ≡ maps_of_problem s
   pub pairs_are : pairs ≡ pair_classes (maps_of_problem s)
   pub numbers_are : numbers ≡ maps_of_problem s
@@ -29,7 +29,7 @@ pairs_before zero b = []
 pairs_before (suc k) [] = []
 pairs_before (suc k) (p ∷ b) = map (λ q. p ∷ q ∷ []) b ++ pairs_before k b
 
--- the rows are those of the pairs: each row is listed as often as pairs are in its class
+-- the rows are those of the pairs: each row is listed as often as pairs are in its orbit
 pub record AreRowsOf (s : Stated) (pairs : List (List ℕ)) (rows : List ℕ) : Type 0 where
   pub long : length rows ≡ length pairs
   pub within : All (λ row. row < length (pairs_of s)) rows
@@ -37,25 +37,11 @@ pub record AreRowsOf (s : Stated) (pairs : List (List ℕ)) (rows : List ℕ) : 
 
 -- the entry of an orbit of so many blocks, where so many pairs of a block of it are in the row
 abbrev pub quotient_cell : Stated → ℕ → Cell → Cell
-quotient_cell s size cell = record { row = cell.row; value = (size * cell.value) / row_size s (slice_index_or (pairs_of s) cell.row []) }
+quotient_cell s size cell = record { row = cell.row; value = (size * cell.value) / row_size s (pair_at s cell.row) }
 
--- the orbit of a number
-abbrev pub orbit_at : Stated → ℕ → List ℕ
-orbit_at s orbit = slice_index_or (orbits_of s) orbit []
-
--- the positive entries of an orbit in the rows of pairs, and in all rows
+-- the positive entries of an orbit in the rows of pairs
 abbrev pub pair_cells : Stated → List ℕ → List Cell
 pair_cells s b = positive_cells 0 (map (pair_entry s b) (pairs_of s))
-
-abbrev pub all_cells : Stated → List ℕ → List Cell
-all_cells s b = positive_cells 0 (entries_of s b)
-
--- columns of so many numbers, stored one after another
-pub record AreStored (column : ℕ → List Cell) (numbers : List ℕ) (starts : List ℕ) (cells : List Cell) : Type 0 where
-  pub starts_are : AreStarts starts (length cells)
-  pub columns_are : columns_of starts cells ≡ map column numbers
-  pub count : length starts ≡ length numbers + 1
-  pub few : length cells ≤ 121 * length numbers
 
 -- the places of the listed blocks that pass a test, increasing
 abbrev pub places_where : (List ℕ → Bool) → List (List ℕ) → List ℕ

@@ -2,20 +2,22 @@
 ghost use Rattle.std.specs.Prelude.{◌≡◌, ◌==◌, ◌+◌, ◌<◌, ◌≤◌, ℕ, List, true, false, length, map, All, Some, nat_le, slice_get, slice_index};
 ghost use Rattle.std.specs.List.{list_all};
 ghost use Rattle.std.specs.List.Sorted.{IsNonDecreasing};
+ghost use Rattle.arrayvec.specs.ArrayVec.{array_vec_len};
 ghost use Rattle.df_lists.specs.Membership.{count};
 ghost use Rattle.df_walk.specs.Systems.{AreCells, entry_of};
-ghost use Rattle.df_kramer_mesner.specs.OrbitSystems.{pairs_of, orbits_of};
-ghost use Rattle.df_matrix.specs.MatrixParts.{quotient_cell, pair_cells as pair_cells_of, orbit_at};
+ghost use Rattle.df_kramer_mesner.specs.OrbitSystems.{pairs_of, orbits_of, orbit_at};
+ghost use Rattle.df_matrix.specs.MatrixParts.{quotient_cell, pair_cells as pair_cells_of};
 
-use crate::classes::Classes;
+use crate::orbits::ProblemOrbits;
 use crate::rows::sorted_rows;
 use arrayvec::ArrayVec;
 use df_kramer_mesner::{cells_are_told_by_entries, entries_are_quotients};
 use df_orbits::MOST_SUMMED;
 use df_system::Cell;
 
-/// The positive entries of an orbit in the rows of pairs.
-pub type Cells = ArrayVec<Cell, 120>;
+/// Positive entries of an orbit, by their rows: at most 120 in rows of pairs, one for each two points of a block, and one
+/// in the row of the orbit itself.
+pub type OrbitCells = ArrayVec<Cell, 121>;
 
 // Whether the row at this place is listed at the next one too.
 fn goes_on(rows: &[u32], place: usize) -> bool
@@ -30,12 +32,13 @@ fn goes_on(rows: &[u32], place: usize) -> bool
 }
 
 // Each different row with how often it is listed.
-fn tally(rows: &[u32]) -> Cells
+fn tally(rows: &[u32]) -> OrbitCells
     requires sorted { IsNonDecreasing rows.now }
     requires few { length rows.now ≤ 120 }
     ensures cells { (n : ℕ) → All (λ row. row < n) rows.now → AreCells n result.items }
     ensures tally { (row : ℕ) → entry_of result.items row ≡ count (λ r. r == row) rows.now }
     ensures small { All (λ cell. cell.value ≤ 120) result.items }
+    ensures few { array_vec_len result ≤ 120 }
 {
     let mut cells = ArrayVec::new();
     let mut count = 0;
@@ -55,36 +58,38 @@ fn tally(rows: &[u32]) -> Cells
 
 // The entries of an orbit of so many blocks, from how many pairs of one of its blocks lie in each row:
 // each of a row's pairs lies in the same number of blocks.
-fn quotients(classes: &Classes, size: u32, tally: &[Cell]) -> Cells
-    requires orbits { 0 < length (orbits_of classes.now) }
+fn quotients(orbits: &ProblemOrbits, size: u32, tally: &[Cell]) -> OrbitCells
+    requires orbits { 0 < length (orbits_of orbits.now) }
     requires size { size ≤ MOST_SUMMED }
     requires few { length tally.now ≤ 120 }
-    requires rows { All (λ cell. cell.row < length (pairs_of classes.now)) tally.now }
+    requires rows { All (λ cell. cell.row < length (pairs_of orbits.now)) tally.now }
     requires small { All (λ cell. cell.value ≤ 120) tally.now }
-    ensures { result.items ≡ map (quotient_cell classes.now size) tally.now }
+    ensures cells { result.items ≡ map (quotient_cell orbits.now size) tally.now }
+    ensures few { array_vec_len result ≤ 120 }
 {
     let mut cells = ArrayVec::new();
     for cell in tally {
         cells.push(Cell {
             row: cell.row,
-            value: size * cell.value / classes.row_size(cell.row),
+            value: size * cell.value / orbits.row_size(cell.row),
         });
     }
     cells
 }
 
 /// The positive entries of an orbit in the rows of pairs.
-pub fn pair_cells(classes: &Classes, orbit: usize) -> Cells
-    requires { orbit < length (orbits_of classes.now) }
-    ensures entries { result.items ≡ pair_cells_of classes.now (orbit_at classes.now orbit) }
-    ensures cells { AreCells (length (pairs_of classes.now)) result.items }
+pub fn pair_cells(orbits: &ProblemOrbits, orbit: usize) -> OrbitCells
+    requires { orbit < length (orbits_of orbits.now) }
+    ensures entries { result.items ≡ pair_cells_of orbits.now (orbit_at orbits.now orbit) }
+    ensures cells { AreCells (length (pairs_of orbits.now)) result.items }
+    ensures few { array_vec_len result ≤ 120 }
 {
     entries_are_quotients();
     cells_are_told_by_entries();
-    let rows = sorted_rows(classes, &classes.orbit(orbit));
+    let rows = sorted_rows(orbits, &orbits.orbit(orbit));
     quotients(
-        classes,
-        classes.orbit_size(orbit),
+        orbits,
+        orbits.orbit_size(orbit),
         tally(rows.as_slice()).as_slice(),
     )
 }

@@ -4,35 +4,39 @@ ghost use Rattle.std.specs.List.{range_with_len};
 ghost use Rattle.std.specs.List.Sorted.{IsStrictlyIncreasing};
 ghost use Rattle.df_lists.specs.Membership.{In};
 ghost use Rattle.df_lang.specs.Problems.{point_count, IsBlock, IsStated};
-ghost use Rattle.df_kramer_mesner.specs.OrbitSystems.{pairs_of, orbits_of, needed_of, pair_target, targets_of as all_targets, has_alike, is_kept, orbit_system};
-ghost use Rattle.df_matrix.specs.MatrixParts.{orbit_at, all_cells, needed_places, kept_places, AreStored};
+ghost use Rattle.df_kramer_mesner.specs.OrbitSystems.{pairs_of, orbits_of, needed_of, pair_target, targets_of as all_targets, has_alike, is_kept, orbit_system, orbit_at, cells_of};
+ghost use Rattle.df_matrix.specs.MatrixParts.{needed_places, kept_places};
 
 use crate::OutOfMemory;
-use crate::cells::{fit, pair_cells};
-use crate::classes::Classes;
+use crate::cells::{OrbitCells, fit, pair_cells};
 use crate::matrix::MOST_COLUMNS;
+use crate::orbits::ProblemOrbits;
 use df_kramer_mesner::{columns_are_sparse, orbit_systems_are_systems, rows_are_pairs_and_needed};
 use df_lang::target;
 use df_orbits::MOST_SUMMED;
 use df_subsets::{Block, blocks_are_ordered, candidates_are_all};
-use df_system::{Cell, System, SystemError};
+use df_system::{Cell, Columns, System, SystemError};
 use std::alloc::{AllocError, Global};
 
 // No mark at any orbit.
-fn no_marks(alloc: Global, orbits: usize) -> Result<Vec<bool>, OutOfMemory>
-    ensures { IfOk result (λ marks. marks.items ≡ replicate orbits false) }
+fn no_marks(alloc: Global, count: usize) -> Result<Vec<bool>, OutOfMemory>
+    ensures { IfOk result (λ marks. marks.items ≡ replicate count false) }
 {
-    vec![in alloc; false; orbits]
+    vec![in alloc; false; count]
 }
 
 /// For each orbit, whether it has one of the listed blocks.
-pub fn marked(alloc: Global, classes: &Classes, blocks: &[Block]) -> Result<Vec<bool>, OutOfMemory>
-    requires { All (IsBlock (point_count classes.now) classes.now.sizes) blocks.now }
-    ensures { IfOk result (λ marks. marks.items ≡ map (has_alike classes.now blocks.now) (orbits_of classes.now)) }
+pub fn marked(
+    alloc: Global,
+    orbits: &ProblemOrbits,
+    blocks: &[Block],
+) -> Result<Vec<bool>, OutOfMemory>
+    requires { All (IsBlock (point_count orbits.now) orbits.now.sizes) blocks.now }
+    ensures { IfOk result (λ marks. marks.items ≡ map (has_alike orbits.now blocks.now) (orbits_of orbits.now)) }
 {
-    let mut marks = no_marks(alloc, classes.orbit_count())?;
+    let mut marks = no_marks(alloc, orbits.orbit_count())?;
     for block in blocks {
-        marks[classes.orbit_of(block)] = true;
+        marks[orbits.orbit_of(block)] = true;
     }
     Ok(marks)
 }
@@ -53,23 +57,27 @@ pub fn numbers_of(alloc: Global, marks: &[bool]) -> Result<Vec<u32>, OutOfMemory
 }
 
 // The targets of the rows of pairs.
-fn pair_targets(alloc: Global, classes: &Classes) -> Result<Vec<u32>, OutOfMemory>
-    ensures { IfOk result (λ targets. targets.items ≡ map (pair_target classes.now) (pairs_of classes.now)) }
+fn pair_targets(alloc: Global, orbits: &ProblemOrbits) -> Result<Vec<u32>, OutOfMemory>
+    ensures { IfOk result (λ targets. targets.items ≡ map (pair_target orbits.now) (pairs_of orbits.now)) }
 {
     let mut targets = Vec::new(alloc);
-    for row in 0..classes.pair_count() {
-        let (p, q) = classes.pair(row);
-        targets.push(target(classes.problem(), p, q))?;
+    for row in 0..orbits.pair_count() {
+        let (p, q) = orbits.pair(row);
+        targets.push(target(orbits.problem(), p, q))?;
     }
     Ok(targets)
 }
 
 /// The targets of the rows: those of the pairs, and 1 for each orbit with a required block.
-pub fn targets_of(alloc: Global, classes: &Classes, needed: usize) -> Result<Vec<u32>, OutOfMemory>
-    requires { needed ≡ length (needed_of classes.now) }
-    ensures { IfOk result (λ targets. targets.items ≡ all_targets classes.now) }
+pub fn targets_of(
+    alloc: Global,
+    orbits: &ProblemOrbits,
+    needed: usize,
+) -> Result<Vec<u32>, OutOfMemory>
+    requires { needed ≡ length (needed_of orbits.now) }
+    ensures { IfOk result (λ targets. targets.items ≡ all_targets orbits.now) }
 {
-    let mut targets = pair_targets(alloc, classes)?;
+    let mut targets = pair_targets(alloc, orbits)?;
     for _i in 0..needed {
         targets.push(1)?;
     }
@@ -77,14 +85,14 @@ pub fn targets_of(alloc: Global, classes: &Classes, needed: usize) -> Result<Vec
 }
 
 // Whether an orbit is kept.
-fn keeps(classes: &Classes, targets: &[u32], forbidden: &[bool], orbit: usize) -> bool
-    requires orbit { orbit < length (orbits_of classes.now) }
-    requires targets { targets.now ≡ all_targets classes.now }
-    requires forbidden { forbidden.now ≡ map (has_alike classes.now classes.now.forbidden) (orbits_of classes.now) }
-    ensures { result ≡ is_kept classes.now (orbit_at classes.now orbit) }
+fn keeps(orbits: &ProblemOrbits, targets: &[u32], forbidden: &[bool], orbit: usize) -> bool
+    requires orbit { orbit < length (orbits_of orbits.now) }
+    requires targets { targets.now ≡ all_targets orbits.now }
+    requires forbidden { forbidden.now ≡ map (has_alike orbits.now orbits.now.forbidden) (orbits_of orbits.now) }
+    ensures { result ≡ is_kept orbits.now (orbit_at orbits.now orbit) }
 {
     rows_are_pairs_and_needed();
-    let cells = pair_cells(classes, orbit);
+    let cells = pair_cells(orbits, orbit);
     if forbidden[orbit] {
         return false;
     }
@@ -94,17 +102,17 @@ fn keeps(classes: &Classes, targets: &[u32], forbidden: &[bool], orbit: usize) -
 /// The numbers of the orbits that are kept.
 pub fn kept_of(
     alloc: Global,
-    classes: &Classes,
+    orbits: &ProblemOrbits,
     targets: &[u32],
     forbidden: &[bool],
 ) -> Result<Vec<u32>, OutOfMemory>
-    requires targets { targets.now ≡ all_targets classes.now }
-    requires forbidden { forbidden.now ≡ map (has_alike classes.now classes.now.forbidden) (orbits_of classes.now) }
-    ensures { IfOk result (λ kept. kept.items ≡ kept_places classes.now) }
+    requires targets { targets.now ≡ all_targets orbits.now }
+    requires forbidden { forbidden.now ≡ map (has_alike orbits.now orbits.now.forbidden) (orbits_of orbits.now) }
+    ensures { IfOk result (λ kept. kept.items ≡ kept_places orbits.now) }
 {
     let mut kept = Vec::new(alloc);
-    for orbit in 0..classes.orbit_count() {
-        if !keeps(classes, targets, forbidden, orbit) {
+    for orbit in 0..orbits.orbit_count() {
+        if !keeps(orbits, targets, forbidden, orbit) {
             continue;
         }
         kept.push(orbit as u32)?;
@@ -125,84 +133,69 @@ pub fn place_in(numbers: &[u32], number: u32) -> Option<u32>
     }
 }
 
-// Adds the cells of an orbit: those of pairs, and 1 in its own row where it has a required block.
-fn add_column(
-    cells: &mut Vec<Cell>,
-    classes: &Classes,
-    needed: &[u32],
-    orbit: u32,
-) -> Result<(), OutOfMemory>
-    requires orbit { orbit < length (orbits_of classes.now) }
-    requires needed { needed.now ≡ needed_places classes.now }
-    ensures cells { IfOk result (λ _. cells.new.items ≡ cells.old.items ++ all_cells classes.now (orbit_at classes.now orbit)) }
-    ensures few { IfOk result (λ _. length (all_cells classes.now (orbit_at classes.now orbit)) ≤ 121) }
+/// All positive entries of an orbit, in the order of their rows: those of pairs, and 1 in its own row where it has a required block.
+pub fn orbit_cells(orbits: &ProblemOrbits, needed: &[u32], orbit: usize) -> OrbitCells
+    requires orbit { orbit < length (orbits_of orbits.now) }
+    requires needed { needed.now ≡ needed_places orbits.now }
+    ensures cells { result.items ≡ cells_of orbits.now (orbit_at orbits.now orbit) }
+    ensures few { length result.items ≤ 121 }
 {
     blocks_are_ordered();
     candidates_are_all();
     columns_are_sparse();
-    let pairs = classes.pair_count();
-    let entries = pair_cells(classes, orbit as usize);
-    cells.extend_from_slice(entries.as_slice())?;
-    match place_in(needed, orbit) {
+    orbits.orbit_count();
+    let pairs = orbits.pair_count();
+    let mut cells = pair_cells(orbits, orbit);
+    match place_in(needed, orbit as u32) {
         Some(place) => {
             cells.push(Cell {
                 row: pairs + place,
                 value: 1,
-            })?;
-            Ok(())
+            });
+            cells
         }
-        None => Ok(()),
+        None => cells,
     }
-}
-
-// The cells of all columns, and where each column's start.
-#[derive(Drop)]
-struct Stored {
-    starts: Vec<u32>,
-    cells: Vec<Cell>,
 }
 
 // The columns of these orbits.
-fn stored_columns(
+fn columns_of(
     alloc: Global,
-    classes: &Classes,
+    orbits: &ProblemOrbits,
     needed: &[u32],
-    orbits: &[u32],
-) -> Result<Stored, OutOfMemory>
-    requires needed { needed.now ≡ needed_places classes.now }
-    requires orbits { All (λ orbit. orbit < length (orbits_of classes.now)) orbits.now }
-    requires few { length orbits.now ≤ MOST_COLUMNS }
-    ensures { IfOk result (λ columns. AreStored (λ orbit. all_cells classes.now (orbit_at classes.now orbit)) orbits.now columns.starts.items columns.cells.items) }
+    numbers: &[u32],
+) -> Result<Columns, OutOfMemory>
+    requires needed { needed.now ≡ needed_places orbits.now }
+    requires numbers { All (λ orbit. orbit < length (orbits_of orbits.now)) numbers.now }
+    requires few { length numbers.now ≤ MOST_COLUMNS }
+    ensures columns { IfOk result (λ columns. columns ≡ map (λ orbit. cells_of orbits.now (orbit_at orbits.now orbit)) numbers.now) }
 {
-    let mut starts = Vec::with_capacity(alloc, orbits.len() + 1)?;
-    let mut cells = Vec::new(alloc);
-    starts.push(0)?;
-    for orbit in orbits {
-        add_column(&mut cells, classes, needed, *orbit)?;
-        starts.push(cells.len() as u32)?;
+    let mut columns = Columns::with_capacity(alloc, numbers.len(), 0)?;
+    for number in numbers {
+        columns.push(orbit_cells(orbits, needed, *number as usize).as_slice())?;
     }
-    Ok(Stored { starts, cells })
+    Ok(columns)
 }
 
 /// The system of the kept orbits.
 pub fn system_of(
     alloc: Global,
-    classes: &Classes,
+    orbits: &ProblemOrbits,
     targets: Vec<u32>,
     needed: &[u32],
     kept: &[u32],
 ) -> Result<System, OutOfMemory>
-    requires stated { IsStated classes.now }
-    requires targets { targets.items ≡ all_targets classes.now }
-    requires needed { needed.now ≡ needed_places classes.now }
-    requires kept { kept.now ≡ kept_places classes.now }
+    requires stated { IsStated orbits.now }
+    requires targets { targets.items ≡ all_targets orbits.now }
+    requires needed { needed.now ≡ needed_places orbits.now }
+    requires kept { kept.now ≡ kept_places orbits.now }
     requires few { length kept.now ≤ MOST_COLUMNS }
-    ensures { IfOk result (λ system. system ≡ orbit_system classes.now) }
+    ensures { IfOk result (λ system. system ≡ orbit_system orbits.now) }
 {
-    let Stored { starts, cells } = stored_columns(alloc, classes, needed, kept)?;
+    let columns = columns_of(alloc, orbits, needed, kept)?;
     orbit_systems_are_systems();
     columns_are_sparse();
-    match System::sparse(alloc, targets, starts, cells) {
+    match System::from_columns(alloc, targets, columns) {
         Ok(system) => Ok(system),
         Err(SystemError::OutOfMemory) => Err(AllocError),
         Err(SystemError::ZeroColumn(_)) => unreachable!(),

@@ -4,18 +4,20 @@
 #![tactic(auto)]
 
 mod cells;
-mod classes;
 mod columns;
 #[cfg(test)]
 mod comparisons;
 mod designs;
 mod matrix;
+mod orbits;
 mod rows;
 #[cfg(test)]
 mod tests;
 
+pub use cells::OrbitCells;
 pub use designs::matrix_tells_designs;
 pub use matrix::{MOST_COLUMNS, MOST_ENTRIES, MatrixError, OrbitMatrix, build};
+pub use orbits::ProblemOrbits;
 
 /// Want of memory.
 pub type OutOfMemory = std::alloc::AllocError;

@@ -1,19 +1,20 @@
 // The orbit matrix of a problem.
-ghost use Rattle.std.specs.Prelude.{◌≡◌, ◌⊎◌, ◌+◌, ◌<◌, ◌≤◌, ◌-◌, ◌∷◌, [], ℕ, List, true, false, is_some, length, slice_get, slice_index, All, Some, None, IfOk, IfErr, IfSome, IsOk, IsNone};
-ghost use Rattle.df_lists.specs.Membership.{In};
+ghost use Rattle.std.specs.Prelude.{◌≡◌, ◌⊎◌, ◌+◌, ◌<◌, ◌≤◌, ◌-◌, ◌∷◌, [], length, All, Some, None, IfOk, IfErr, IsOk};
 ghost use Rattle.df_lang.specs.Problems.{point_count, IsBlock, IsStated};
-ghost use Rattle.df_kramer_mesner.specs.OrbitSystems.{orbit_system, pairs_of, needed_of, orbits_of, columns_of, entries_of, targets_of, targets_of as all_targets, is_kept, alike};
-ghost use Rattle.df_matrix.specs.Limits.{limit_passed, or_else, column_limit, entry_limit, column_limit_of, entry_limit_of};
+ghost use Rattle.df_kramer_mesner.specs.OrbitSystems.{orbit_system, pairs_of, needed_of, orbits_of, columns_of, targets_of, targets_of as all_targets, pair_at, needed_at, column_at, orbit_at, entry_at, cells_of, column_number, representative};
+ghost use Rattle.df_matrix.specs.Limits.{limit_passed, or_else, column_limit, entry_limit, column_limit_of, entry_limit_of, passed_by};
 ghost use Rattle.df_matrix.specs.MatrixParts.{AreColumns, needed_places, kept_places};
 ghost use Rattle.df_matrix.specs.declared.matrix.MatrixError.TheVariants.{OutOfMemory as OutOfMemoryError};
 
-use crate::cells::{pair_cells, value_at};
-use crate::classes::Classes;
-use crate::columns::{kept_of, marked, numbers_of, place_in, system_of, targets_of as targets};
-use df_kramer_mesner::{columns_are_sparse, rows_are_pairs_and_needed};
+use crate::cells::{OrbitCells, value_at};
+use crate::columns::{
+    kept_of, marked, numbers_of, orbit_cells, place_in, system_of, targets_of as targets,
+};
+use crate::orbits::ProblemOrbits;
+use df_kramer_mesner::{columns_are_sparse, orbits_are_numbered, rows_are_pairs_and_needed};
 use df_lang::Problem;
-use df_orbits::MOST_SUMMED;
-use df_subsets::{Block, Point, blocks_are_ordered, candidates_are_all};
+use df_orbits::{MOST_SUMMED, OrbitError};
+use df_subsets::{Block, Point};
 use df_system::System;
 use std::alloc::{AllocError, Global};
 use std::marker::Model;
@@ -43,7 +44,7 @@ pub enum MatrixError {
 /// Contracts see it as its problem, of which it keeps a copy.
 #[derive(Drop)]
 pub struct OrbitMatrix {
-    classes: Classes,
+    orbits: ProblemOrbits,
     // the numbers of the orbits that have a required block, increasing
     needed_orbits: Vec<u32>,
     // the numbers of the orbits that are kept, increasing
@@ -57,9 +58,9 @@ impl Model for OrbitMatrix {
 
     ghost Value = { Stated };
 
-    ghost view = { λ m. m.classes };
+    ghost view = { λ m. m.orbits };
 
-    ghost invariant = { λ m. AreColumns m.classes m.needed_orbits.items m.kept_orbits.items m.system };
+    ghost invariant = { λ m. AreColumns m.orbits m.needed_orbits.items m.kept_orbits.items m.system };
 }
 
 impl OrbitMatrix {
@@ -74,45 +75,45 @@ impl OrbitMatrix {
     pub fn problem(&self) -> &Problem
         ensures { result.now ≡ self.now }
     {
-        self.classes.problem()
+        self.orbits.problem()
     }
 
     /// The number of rows of pairs. The rows after them are those of required orbits.
     pub fn pair_rows(&self) -> u32
         ensures { result ≡ length (pairs_of self.now) }
     {
-        self.classes.pair_count()
+        self.orbits.pair_count()
     }
 
-    /// The earliest pair of a row of pairs, whose number is below `pair_rows`. The first point is the lower one.
+    /// The representative of a row of pairs, whose number is below `pair_rows`. The first point is the lower one.
     pub fn row_pair(&self, row: u32) -> (Point, Point)
         requires { row < length (pairs_of self.now) }
-        ensures pair { slice_get (pairs_of self.now) row ≡ Some (result.0 ∷ result.1 ∷ []) }
+        ensures pair { result.0 ∷ result.1 ∷ [] ≡ pair_at self.now row }
         ensures order { result.0 < result.1 }
         ensures within { result.1 < point_count self.now }
     {
-        self.classes.pair(row)
+        self.orbits.pair(row)
     }
 
-    /// The earliest member of the required orbit of a row, whose number is from `pair_rows` on and below the number of rows.
+    /// The representative of the required orbit of a row, whose number is from `pair_rows` on and below the number of rows.
     pub fn row_block(&self, row: u32) -> Block
         requires after { length (pairs_of self.now) ≤ row }
         requires within { row < length (pairs_of self.now) + length (needed_of self.now) }
-        ensures needed { slice_get (needed_of self.now) (row - length (pairs_of self.now)) ≡ Some result }
+        ensures needed { result ≡ needed_at self.now (row - length (pairs_of self.now)) }
         ensures size { length result ≤ 16 }
     {
-        let place = row - self.classes.pair_count();
-        self.classes
+        let place = row - self.orbits.pair_count();
+        self.orbits
             .orbit(self.needed_orbits[place as usize] as usize)
     }
 
-    /// The earliest member of a column's orbit. The column is below the number of columns.
+    /// The representative of a column's orbit. The column is below the number of columns.
     pub fn column_block(&self, column: u32) -> Block
         requires { column < length (columns_of self.now) }
-        ensures column { slice_get (columns_of self.now) column ≡ Some result }
+        ensures column { result ≡ column_at self.now column }
         ensures size { length result ≤ 16 }
     {
-        self.classes
+        self.orbits
             .orbit(self.kept_orbits[column as usize] as usize)
     }
 
@@ -120,55 +121,54 @@ impl OrbitMatrix {
     pub fn orbit_count(&self) -> usize
         ensures { result ≡ length (orbits_of self.now) }
     {
-        self.classes.orbit_count()
+        self.orbits.orbit_count()
     }
 
-    /// The earliest member of an orbit, whose number is below `orbit_count`.
+    /// The representative of an orbit, whose number is below `orbit_count`.
     pub fn orbit_block(&self, orbit: usize) -> Block
         requires { orbit < length (orbits_of self.now) }
-        ensures orbit { slice_get (orbits_of self.now) orbit ≡ Some result }
+        ensures orbit { result ≡ orbit_at self.now orbit }
         ensures size { length result ≤ 16 }
     {
-        self.classes.orbit(orbit)
+        self.orbits.orbit(orbit)
     }
 
     /// The entry of a row, below the number of rows, and an orbit, below `orbit_count`.
     pub fn entry_of_orbit(&self, row: u32, orbit: usize) -> u32
         requires row { row < length (targets_of self.now) }
         requires orbit { orbit < length (orbits_of self.now) }
-        ensures { (b : List ℕ) → slice_get (orbits_of self.now) orbit ≡ Some b → slice_get (entries_of self.now b) row ≡ Some result }
+        ensures { result ≡ entry_at self.now row (orbit_at self.now orbit) }
     {
         rows_are_pairs_and_needed();
-        blocks_are_ordered();
-        candidates_are_all();
-        let pairs = self.classes.pair_count();
-        if row < pairs {
-            return value_at(pair_cells(&self.classes, orbit).as_slice(), row);
-        }
-        if self.needed_orbits[(row - pairs) as usize] as usize == orbit {
-            1
-        } else {
-            0
-        }
+        value_at(self.orbit_cells(orbit).as_slice(), row)
+    }
+
+    /// All positive entries of an orbit, whose number is below `orbit_count`, in the order of their rows, those of required orbits among them.
+    pub fn orbit_cells(&self, orbit: usize) -> OrbitCells
+        requires { orbit < length (orbits_of self.now) }
+        ensures { result.items ≡ cells_of self.now (orbit_at self.now orbit) }
+    {
+        orbit_cells(&self.orbits, &self.needed_orbits, orbit)
     }
 
     /// The column of an orbit, whose number is below `orbit_count`. `None` exactly where the orbit isn't kept.
     pub fn kept(&self, orbit: usize) -> Option<u32>
         requires { orbit < length (orbits_of self.now) }
-        ensures some { IfSome result (λ column. slice_get (columns_of self.now) column ≡ slice_get (orbits_of self.now) orbit) }
-        ensures exactly { (b : List ℕ) → slice_get (orbits_of self.now) orbit ≡ Some b → is_some result ≡ is_kept self.now b }
+        ensures { result ≡ column_number self.now (orbit_at self.now orbit) }
     {
-        self.classes.orbit_count();
+        orbits_are_numbered();
+        self.orbits.orbit_count();
         place_in(&self.kept_orbits, orbit as u32)
     }
 
-    /// The column of the class of a block, which has one of the stated sizes and lies below the number of points. `None` exactly where that orbit isn't kept.
+    /// The column of the orbit of a block, which has one of the stated sizes and lies below the number of points. `None` exactly where that orbit isn't kept.
     pub fn column_of(&self, block: &Block) -> Option<u32>
-        requires block { IsBlock (point_count self.now) self.now.sizes block.now }
-        ensures some { IfSome result (λ column. (b : List ℕ) × (slice_get (columns_of self.now) column ≡ Some b) × (alike self.now block.now b ≡ true)) }
-        ensures none { IsNone result → (b : List ℕ) → In (columns_of self.now) b → alike self.now block.now b ≡ false }
+        requires { IsBlock (point_count self.now) self.now.sizes block.now }
+        ensures { result ≡ column_number self.now (representative self.now block.now) }
     {
-        self.kept(self.classes.orbit_of(block))
+        orbits_are_numbered();
+        self.orbits.orbit_count();
+        self.kept(self.orbits.orbit_of(block))
     }
 }
 
@@ -178,13 +178,13 @@ pub fn build(alloc: Global, problem: &Problem) -> Result<OrbitMatrix, MatrixErro
     ensures within { IsOk result → limit_passed problem.now ≡ None }
     ensures refused { IfErr result (λ e. (limit_passed problem.now ≡ Some e) ⊎ (e ≡ OutOfMemoryError)) }
 {
-    let classes = match Classes::new(alloc, problem) {
-        Ok(classes) => classes,
-        Err(error) => return Err(error),
+    let orbits = match ProblemOrbits::new(alloc, problem) {
+        Ok(orbits) => orbits,
+        Err(error) => return Err(passed(error)),
     };
-    match parts_of(alloc, &classes) {
+    match parts_of(alloc, &orbits) {
         Ok(parts) => Ok(OrbitMatrix {
-            classes,
+            orbits,
             needed_orbits: parts.needed,
             kept_orbits: parts.kept,
             system: parts.system,
@@ -193,7 +193,18 @@ pub fn build(alloc: Global, problem: &Problem) -> Result<OrbitMatrix, MatrixErro
     }
 }
 
-// What a matrix keeps beside its classes.
+// What a limit of the orbits is for the matrix.
+fn passed(error: OrbitError) -> MatrixError
+    ensures { result ≡ passed_by error }
+{
+    match error {
+        OrbitError::TooManySubsets { points, size } => MatrixError::TooManySubsets { points, size },
+        OrbitError::TooManySummed { points, sum } => MatrixError::TooManySummed { points, sum },
+        OrbitError::OutOfMemory => MatrixError::OutOfMemory,
+    }
+}
+
+// What a matrix keeps beside its orbits.
 #[derive(Drop)]
 struct Parts {
     needed: Vec<u32>,
@@ -202,21 +213,25 @@ struct Parts {
 }
 
 // The numbers of the orbits that have a required block.
-fn needed_numbers(alloc: Global, classes: &Classes) -> Result<Vec<u32>, AllocError>
-    ensures { IfOk result (λ needed. needed.items ≡ needed_places classes.now) }
+fn needed_numbers(alloc: Global, orbits: &ProblemOrbits) -> Result<Vec<u32>, AllocError>
+    ensures { IfOk result (λ needed. needed.items ≡ needed_places orbits.now) }
 {
-    classes.orbit_count();
-    let marks = marked(alloc, classes, required_of(classes.problem()))?;
+    orbits.orbit_count();
+    let marks = marked(alloc, orbits, required_of(orbits.problem()))?;
     numbers_of(alloc, &marks)
 }
 
 // The numbers of the orbits that are kept.
-fn kept_numbers(alloc: Global, classes: &Classes, targets: &[u32]) -> Result<Vec<u32>, AllocError>
-    requires { targets.now ≡ all_targets classes.now }
-    ensures { IfOk result (λ kept. kept.items ≡ kept_places classes.now) }
+fn kept_numbers(
+    alloc: Global,
+    orbits: &ProblemOrbits,
+    targets: &[u32],
+) -> Result<Vec<u32>, AllocError>
+    requires { targets.now ≡ all_targets orbits.now }
+    ensures { IfOk result (λ kept. kept.items ≡ kept_places orbits.now) }
 {
-    let forbidden = marked(alloc, classes, forbidden_of(classes.problem()))?;
-    kept_of(alloc, classes, targets, &forbidden)
+    let forbidden = marked(alloc, orbits, forbidden_of(orbits.problem()))?;
+    kept_of(alloc, orbits, targets, &forbidden)
 }
 
 // The required blocks.
@@ -244,28 +259,28 @@ fn version_of(problem: &Problem) -> u8
 }
 
 // The parts of a matrix, if its columns and entries aren't too many.
-fn parts_of(alloc: Global, classes: &Classes) -> Result<Parts, MatrixError>
-    ensures value { IfOk result (λ parts. AreColumns classes.now parts.needed.items parts.kept.items parts.system) }
-    ensures within { IsOk result → or_else (column_limit classes.now) (entry_limit classes.now) ≡ None }
-    ensures refused { IfErr result (λ e. (or_else (column_limit classes.now) (entry_limit classes.now) ≡ Some e) ⊎ (e ≡ OutOfMemoryError)) }
+fn parts_of(alloc: Global, orbits: &ProblemOrbits) -> Result<Parts, MatrixError>
+    ensures value { IfOk result (λ parts. AreColumns orbits.now parts.needed.items parts.kept.items parts.system) }
+    ensures within { IsOk result → or_else (column_limit orbits.now) (entry_limit orbits.now) ≡ None }
+    ensures refused { IfErr result (λ e. (or_else (column_limit orbits.now) (entry_limit orbits.now) ≡ Some e) ⊎ (e ≡ OutOfMemoryError)) }
 {
     columns_are_sparse();
-    classes.orbit_count();
-    let version = version_of(classes.problem());
-    let Ok(needed) = needed_numbers(alloc, classes) else {
+    orbits.orbit_count();
+    let version = version_of(orbits.problem());
+    let Ok(needed) = needed_numbers(alloc, orbits) else {
         return Err(MatrixError::OutOfMemory);
     };
-    let Ok(targets) = targets(alloc, classes, needed.len()) else {
+    let Ok(targets) = targets(alloc, orbits, needed.len()) else {
         return Err(MatrixError::OutOfMemory);
     };
-    let Ok(kept) = kept_numbers(alloc, classes, &targets) else {
+    let Ok(kept) = kept_numbers(alloc, orbits, &targets) else {
         return Err(MatrixError::OutOfMemory);
     };
     match judge(version, targets.len(), kept.len()) {
         Ok(()) => {}
         Err(error) => return Err(error),
     }
-    match system_of(alloc, classes, targets, &needed, &kept) {
+    match system_of(alloc, orbits, targets, &needed, &kept) {
         Ok(system) => Ok(Parts {
             needed,
             kept,

@@ -7,7 +7,7 @@ use Rattle.df_lists.specs.NumberSets.{IsSet}
 use Rattle.df_lists.proofs.MemberLaws.{In-filter, In-filter_gives}
 use Rattle.df_subsets.specs.Blocks.{before}
 use Rattle.df_lists.specs.Orders.{IsSorted}
-use Rattle.df_subsets.specs.Subsets.{points, subsets, candidates, nonempty, same_list}
+use Rattle.df_subsets.specs.Subsets.{points, subsets, candidates, nonempty, same_list, place_of}
 use Rattle.df_subsets.proofs.BlockLaws.{set_is_block}
 use Rattle.df_subsets.proofs.BlockOrders.{lists_ordered}
 use Rattle.df_subsets.proofs.SubsetLists.{same_list-gives, same_list-self}
@@ -32,7 +32,7 @@ one_size v k = choose_is (points v) k ∙ filter_agree (λ b. eqb k (length b)) 
     or_none true = refl
     or_none false = refl
 
-sorted-filter : {X : Type 0} (earlier : X → X → Bool) (t : X → Bool) (xs : List X) → IsSorted earlier xs → IsSorted earlier (filter t xs)
+pub sorted-filter : {X : Type 0} (earlier : X → X → Bool) (t : X → Bool) (xs : List X) → IsSorted earlier xs → IsSorted earlier (filter t xs)
 sorted-filter earlier t [] s = tt
 sorted-filter earlier t (x ∷ xs) s =
     let more = sorted-filter earlier t xs s.1 in
@@ -52,10 +52,34 @@ In-place [] x d i = absurd i
 In-place (y ∷ xs) x d (inl e) = (0, omega arith, e)
 In-place (y ∷ xs) x d (inr i) = let r = In-place xs x d i in (suc r.0, omega (arith, r.1), r.2)
 
+place_at : (F : List (List ℕ)) (i : ℕ) → IsSorted before F → i < length F → place_of (get_or F i []) F ≡ i
+place_at [] i s h = absurd (omega arith)
+place_at (x ∷ F) zero s h = rw (same_list-self x) refl
+place_at (x ∷ F) (suc i) s h =
+    let y = get_or F i [] in
+    let differs : same_list y x ≡ false = false_from_ne_true (same_list y x) (λ t. both_ways (before x x) (lists_ordered.unlike x) (subst (λ z. before x z ≡ true) (same_list-gives y x t) (s.0 y (In-get_or F i [] (omega arith))))) in
+    rw differs (ap suc (place_at F i s.1 (omega arith)))
+
+-- in a sorted list a block stands at its place
+pub place_is : (F : List (List ℕ)) (r : ℕ) (b : List ℕ) → IsSorted before F → slice_get F r ≡ Some b → r ≡ place_of b F
+place_is F r b s at = sym (place_at F r s (slice_get_within F r b at)) ∙ ap (λ c. place_of c F) (get_or_from_slice_get F r b [] at)
+
+pub places_found : (blocks : List (List ℕ)) → IsSorted before blocks → (i : ℕ) (b : List ℕ) → slice_get blocks i ≡ Some b → place_of b blocks ≡ i
+places_found blocks s i b at = sym (place_is blocks i b s at)
+
 -- the earliest members of the listed classes
 pub members_are : (M : MapGroup) (blocks : List (List ℕ)) → first_members (classes_of M blocks) ≡ earliest_of M blocks
 members_are M blocks =
     map-map (λ (c : List ℕ × ℕ). c.0) (λ b. (b, class_size M blocks b)) (earliest_of M blocks) ∙ map_fixed (λ b. b) (earliest_of M blocks) (λ b i. refl)
+
+-- a block that no image is earlier than is its own earliest image
+pub own_earliest : (M : MapGroup) → AreGroup M → (x : List ℕ) → IsSet (point_count M) x → is_earliest before (image M) (full_maps M) x ≡ true → earliest_alike M x ≡ x
+own_earliest M A x x_set least =
+    let g = least_gives same_list (image M) (IsSet (point_count M)) (full_maps M) lists_equal (blocks_group M A) before lists_ordered x x_set in
+    let set = subst (IsSet (point_count M)) g.2 ((blocks_group M A).stays g.0 g.1 x x_set) in
+    sym (least_once same_list (image M) (IsSet (point_count M)) (full_maps M) lists_equal (blocks_group M A) before lists_ordered x (earliest_alike M x) x_set set
+    (least_same same_list (image M) (IsSet (point_count M)) (full_maps M) lists_equal (blocks_group M A) before lists_ordered x x_set) least
+    (least_least same_list (image M) (IsSet (point_count M)) (full_maps M) lists_equal (blocks_group M A) before lists_ordered x x_set))
 
 module _ (M : MapGroup) (A : AreGroup M) (sizes : List ℕ) where
   abbrev pub E : List (List ℕ)
@@ -67,15 +91,25 @@ module _ (M : MapGroup) (A : AreGroup M) (sizes : List ℕ) where
   spread : IsSpread same_list (image M) (IsSet (point_count M)) (full_maps M) (candidates (point_count M) sizes)
   spread = candidates_spread (carried M) (point_count M) (full_maps M) A.group sizes
 
+  pub member_own : (b : List ℕ) → In E b → earliest_alike M b ≡ b
+  member_own b i =
+      let parts = In-filter_gives (is_earliest before (image M) (full_maps M)) (candidates (point_count M) sizes) b i in
+      own_earliest M A b (spread.inside b parts.0) parts.1
+
   module _ (b : List ℕ) (set : IsSet (point_count M) b) (sized : In sizes (length b)) where
     candidate : In (candidates (point_count M) sizes) b
     candidate = candidates_have (point_count M) sizes b (set_is_block (point_count M) b set) (any_from (λ k. eqb k (length b)) sizes (length b) sized (eq-eqb (length b) (length b) refl))
 
-    least_in : In E (earliest_alike M b)
+    pub least_in : In E (earliest_alike M b)
     least_in =
         let g = least_gives same_list (image M) (IsSet (point_count M)) (full_maps M) lists_equal (blocks_group M A) before lists_ordered b set in
         In-filter (is_earliest before (image M) (full_maps M)) (candidates (point_count M) sizes) (earliest_alike M b) (subst (In (candidates (point_count M) sizes)) g.2 (spread.moves g.0 g.1 b candidate))
         (least_least same_list (image M) (IsSet (point_count M)) (full_maps M) lists_equal (blocks_group M A) before lists_ordered b set)
+
+    pub member_alone : (c : List ℕ) → In E c → are_alike M b c ≡ same_list (earliest_alike M b) c
+    member_alone c i =
+        let parts = In-filter_gives (is_earliest before (image M) (full_maps M)) (candidates (point_count M) sizes) c i in
+        least_class same_list (image M) (IsSet (point_count M)) (full_maps M) lists_equal (blocks_group M A) before lists_ordered b c set (spread.inside c parts.0) ∙ ap (same_list (earliest_alike M b)) (member_own c i)
 
     pub number_exists : (r : ℕ) × (r < length E) × (get_or E r [] ≡ earliest_alike M b)
     number_exists = In-place E (earliest_alike M b) [] least_in
@@ -110,13 +144,7 @@ module _ (M : MapGroup) (A : AreGroup M) (sizes : List ℕ) where
         x_set = spread.inside (get_or E i []) x_in.0
 
         own : earliest_alike M (get_or E i []) ≡ get_or E i []
-        own =
-            let y = get_or E i [] in
-            let g = least_gives same_list (image M) (IsSet (point_count M)) (full_maps M) lists_equal (blocks_group M A) before lists_ordered y x_set in
-            let set = subst (IsSet (point_count M)) g.2 ((blocks_group M A).stays g.0 g.1 y x_set) in
-            sym (least_once same_list (image M) (IsSet (point_count M)) (full_maps M) lists_equal (blocks_group M A) before lists_ordered y (earliest_alike M y) x_set set
-            (least_same same_list (image M) (IsSet (point_count M)) (full_maps M) lists_equal (blocks_group M A) before lists_ordered y x_set) x_in.1
-            (least_least same_list (image M) (IsSet (point_count M)) (full_maps M) lists_equal (blocks_group M A) before lists_ordered y x_set))
+        own = own_earliest M A (get_or E i []) x_set x_in.1
 
         apart : get_or E r [] ≡ get_or E i [] → i ≡ r
         apart e = go (cases_order i r)

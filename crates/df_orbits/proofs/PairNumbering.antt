@@ -17,7 +17,7 @@ use Rattle.df_maps.proofs.SetLists.{In-get_or}
 use Rattle.df_orbits.specs.OrbitClasses.{are_alike, classes_of, earliest_of, pair_classes, first_members, earliest_alike}
 use Rattle.df_orbits.specs.LookupTables.{IsPairNumber}
 use Rattle.df_orbits.proofs.FoundClasses.{alike_comm}
-use Rattle.df_orbits.proofs.ClassNumbers.{one_size, members_are, number_exists, number_alone}
+use Rattle.df_orbits.proofs.ClassNumbers.{one_size, members_are, number_exists, number_alone, listed_sorted, place_is}
 
 abbrev pub firsts : MapGroup → List (List ℕ)
 firsts M = first_members (pair_classes M)
@@ -65,6 +65,7 @@ module _ (M : MapGroup) (A : AreGroup M) where
 
     pub is_number : (r : ℕ) → IsNumberIn (firsts M) r → IsPairNumber M (p ∷ q ∷ []) r
     is_number r is = record {
+      number = place_is (firsts M) r (earliest_alike M (p ∷ q ∷ [])) (listed_sorted M A (2 ∷ []) (pair_classes M) (ap (classes_of M) (one_size (point_count M) 2))) (slice_get-get_or (firsts M) r [] is.0 ∙ ap Some is.1);
       within = omega (arith, is.0, firsts_long);
       earliest = slice_get-get_or (firsts M) r [] is.0 ∙ ap Some is.1;
       class = λ i c h. subst (λ y. are_alike M (p ∷ q ∷ []) y ≡ eqb i r) (get_or_from_slice_get (firsts M) i c [] h) (is.2 i (slice_get_within (firsts M) i c h));

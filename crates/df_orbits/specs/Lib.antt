@@ -1,3 +1,4 @@
 pub mod OrbitClasses
+pub mod Laws
 pub mod MarkedPlaces
 pub mod LookupTables

@@ -4,7 +4,7 @@ use Rattle.df_subsets.specs.Subsets.{binomial}
 use Rattle.df_maps.specs.FullMaps.{MapGroup, full_maps, map_number, carried, point_count}
 use Rattle.df_maps.specs.Laws.{AreGroup}
 use Rattle.df_orbits.specs.declared.orbits.TheConstants.{MOST_SUMMED}
-use Rattle.df_orbits.specs.OrbitClasses.{are_alike, earliest_alike, pair_classes, first_members}
+use Rattle.df_orbits.specs.OrbitClasses.{are_alike, earliest_alike, pair_classes, first_members, orbit_number}
 
 -- the image of point p under map number i stands at place i * points + p
 pub record AreImages (M : MapGroup) (points count : ℕ) (table : List ℕ) : Type 0 where
@@ -30,6 +30,7 @@ pub record AreLater (points size all : ℕ) (table : List ℕ) : Type 0 where
 
 -- r is the number of the class of b among the classes of pairs
 pub record IsPairNumber (M : MapGroup) (b : List ℕ) (r : ℕ) : Type 0 where
+  pub number : r ≡ orbit_number M (pair_classes M) b
   pub within : r < length (pair_classes M)
   pub earliest : slice_get (first_members (pair_classes M)) r ≡ Some (earliest_alike M b)
   pub class : (i : ℕ) (c : List ℕ) → slice_get (first_members (pair_classes M)) i ≡ Some c → are_alike M b c ≡ (i == r)

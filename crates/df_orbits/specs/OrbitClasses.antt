@@ -1,8 +1,8 @@
 -- Classes of blocks under a group of maps, and their earliest members (Kramer and Mesner 1976, for t = 2).
-use Rattle.std.specs.Prelude.{ℕ, Bool, List, map}
+use Rattle.std.specs.Prelude.{ℕ, Bool, List, [], map, slice_index, slice_index_or}
 use Rattle.df_lists.specs.Membership.{count}
 use Rattle.df_subsets.specs.Blocks.{before}
-use Rattle.df_subsets.specs.Subsets.{subsets, candidates, same_list}
+use Rattle.df_subsets.specs.Subsets.{subsets, candidates, same_list, place_of}
 use Rattle.df_acting.specs.Classes.{in_one_class}
 use Rattle.df_acting.specs.Earliest.{earliest_members, earliest_image}
 use Rattle.df_maps.specs.FullMaps.{MapGroup, full_maps, image, point_count}
@@ -41,3 +41,14 @@ class_sizes classes = map (λ c. c.1) classes
 -- the earliest member of the class of b
 abbrev pub earliest_alike : MapGroup → List ℕ → List ℕ
 earliest_alike M b = earliest_image before (image M) (full_maps M) b
+
+-- the representative, and the size, of the orbit of this number, from 0
+abbrev pub representative_at : List (List ℕ × ℕ) → ℕ → List ℕ
+representative_at orbits i = slice_index_or (first_members orbits) i []
+
+abbrev pub size_at : List (List ℕ × ℕ) → ℕ → ℕ
+size_at orbits i = slice_index (class_sizes orbits) i
+
+-- the number of the orbit of b among listed orbits: the place of its representative
+abbrev pub orbit_number : MapGroup → List (List ℕ × ℕ) → List ℕ → ℕ
+orbit_number M orbits b = place_of (earliest_alike M b) (first_members orbits)

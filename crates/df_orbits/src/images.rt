@@ -10,7 +10,7 @@ use df_subsets::{Block, Point};
 use std::alloc::Global;
 use std::marker::Model;
 
-/// The maps, each image of a point in a table.
+/// The maps, each image of a point in a table. Contracts see it as the maps.
 #[derive(Drop)]
 pub struct Images {
     maps: Maps,
@@ -50,6 +50,13 @@ impl Images {
             count,
             table,
         })
+    }
+
+    /// The maps once more, without taking memory.
+    pub fn maps(&self) -> Maps
+        ensures { result ≡ self.now }
+    {
+        self.maps.copied()
     }
 
     /// The number of points, from 2 to 128.

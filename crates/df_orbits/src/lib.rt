@@ -6,6 +6,7 @@
 #[cfg(test)]
 mod comparisons;
 mod images;
+mod laws;
 mod marks;
 mod numbers;
 mod orbits;
@@ -13,9 +14,12 @@ mod places;
 #[cfg(test)]
 mod tests;
 
+pub use images::Images;
+pub use laws::{places_are_found, representatives_tell_orbits};
 pub use numbers::PairNumbers;
 pub use orbits::{
-    MOST_SUBSETS, MOST_SUMMED, OrbitError, Orbits, pair_orbits, sized_orbits, subset_orbits,
+    MOST_SUBSETS, MOST_SUMMED, OrbitError, Orbits, count_blocks, orbits_of_pairs, orbits_of_sizes,
+    pair_orbits, sized_orbits, subset_orbits,
 };
 
 /// Want of memory.

@@ -3,7 +3,7 @@ ghost use Rattle.std.specs.Prelude.{◌≡◌, ◌<◌, ◌≤◌, ◌*◌, ◌+
 ghost use Rattle.df_subsets.specs.Blocks.{IsBlock};
 ghost use Rattle.df_maps.specs.FullMaps.{point_count};
 ghost use Rattle.df_maps.specs.Laws.{AreGroup};
-ghost use Rattle.df_orbits.specs.OrbitClasses.{are_alike, pair_classes, first_members, earliest_alike};
+ghost use Rattle.df_orbits.specs.OrbitClasses.{are_alike, pair_classes, first_members, earliest_alike, orbit_number};
 
 use crate::OutOfMemory;
 use crate::images::Images;
@@ -34,20 +34,19 @@ impl Model for PairNumbers {
 }
 
 impl PairNumbers {
-    /// The numbers of the classes `pairs`, which `pair_orbits` gave for these maps. The table has at most 64 KiB.
-    pub fn new(alloc: Global, maps: &Maps, pairs: &Orbits) -> Result<PairNumbers, OutOfMemory>
-        requires classes { pairs.now ≡ pair_classes maps.now }
-        ensures { IfOk result (λ numbers. numbers ≡ maps.now) }
+    /// The numbers of the orbits `pairs`, which are those of pairs under the maps of this table. They take at most 64 KiB.
+    pub fn new(alloc: Global, images: &Images, pairs: &Orbits) -> Result<PairNumbers, OutOfMemory>
+        requires classes { pairs.now ≡ pair_classes images.now }
+        ensures { IfOk result (λ numbers. numbers ≡ images.now) }
     {
-        let images = Images::new(alloc, maps)?;
-        let points = maps.points();
+        let points = images.points();
         let width = usize::from(points);
         let mut numbers = vec![in alloc; 0; width * width]?;
         for i in 0..pairs.len() {
-            number_class(&mut numbers, &images, &pairs.rep(i), i as u32);
+            number_class(&mut numbers, images, &pairs.rep(i), i as u32);
         }
         Ok(PairNumbers {
-            maps: maps.copied(),
+            maps: images.maps(),
             points,
             numbers,
         })
@@ -57,6 +56,7 @@ impl PairNumbers {
     pub fn number_of(&self, p: Point, q: Point) -> usize
         requires order { p < q }
         requires points { q < point_count self.now }
+        ensures number { result ≡ orbit_number self.now (pair_classes self.now) (p ∷ q ∷ []) }
         ensures within { result < length (pair_classes self.now) }
         ensures earliest { slice_get (first_members (pair_classes self.now)) result ≡ Some (earliest_alike self.now (p ∷ q ∷ [])) }
         ensures class { (i : ℕ) (b : List ℕ) → slice_get (first_members (pair_classes self.now)) i ≡ Some b → are_alike self.now (p ∷ q ∷ []) b ≡ (i == result) }

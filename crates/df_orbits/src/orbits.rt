@@ -6,7 +6,7 @@ ghost use Rattle.df_subsets.specs.Blocks.{IsBlock};
 ghost use Rattle.df_subsets.specs.Subsets.{subsets, binomial as binomial_of};
 ghost use Rattle.df_maps.specs.FullMaps.{point_count};
 ghost use Rattle.df_orbits.specs.MarkedPlaces.{is_marked};
-ghost use Rattle.df_orbits.specs.OrbitClasses.{are_alike, class_size, classes_of, pair_classes, block_classes, first_members, class_sizes, earliest_alike};
+ghost use Rattle.df_orbits.specs.OrbitClasses.{are_alike, class_size, classes_of, pair_classes, block_classes, first_members, class_sizes, earliest_alike, representative_at, size_at, orbit_number};
 ghost use Rattle.df_orbits.specs.declared.orbits.OrbitError.TheVariants.{TooManySubsets, TooManySummed, OutOfMemory as OutOfMemoryError};
 
 use crate::OutOfMemory;
@@ -66,7 +66,7 @@ impl Orbits {
     /// The earliest member of class number `i`, from 0 and below the number of classes.
     pub fn rep(&self, i: usize) -> Block
         requires { i < length self.now }
-        ensures { slice_get (first_members self.now) i ≡ Some result }
+        ensures { result ≡ representative_at self.now i }
     {
         self.found[i].block
     }
@@ -74,7 +74,7 @@ impl Orbits {
     /// How many blocks class number `i` has, from 0 and below the number of classes.
     pub fn size(&self, i: usize) -> u32
         requires { i < length self.now }
-        ensures { slice_get (class_sizes self.now) i ≡ Some result }
+        ensures { result ≡ size_at self.now i }
     {
         self.found[i].size
     }
@@ -84,6 +84,7 @@ impl Orbits {
     pub fn number_of(&self, maps: &Maps, block: &Block) -> usize
         requires making { (sizes : List ℕ) × (self.now ≡ block_classes maps.now sizes) × In sizes (length block.now) }
         requires block { IsBlock (point_count maps.now) block.now }
+        ensures number { result ≡ orbit_number maps.now self.now block.now }
         ensures within { result < length self.now }
         ensures earliest { slice_get (first_members self.now) result ≡ Some (earliest_alike maps.now block.now) }
         ensures class { (i : ℕ) (b : List ℕ) → slice_get (first_members self.now) i ≡ Some b → are_alike maps.now block.now b ≡ (i == result) }
@@ -117,8 +118,17 @@ pub fn pair_orbits(alloc: Global, maps: &Maps) -> Result<Orbits, OutOfMemory>
     ensures sized { IfOk result (λ orbits. orbits ≡ block_classes maps.now (2 ∷ [])) }
 {
     let images = Images::new(alloc, maps)?;
+    orbits_of_pairs(alloc, &images)
+}
+
+/// The orbits of pairs of points under the maps of a table that is there already.
+pub fn orbits_of_pairs(alloc: Global, images: &Images) -> Result<Orbits, OutOfMemory>
+    ensures pairs { IfOk result (λ orbits. orbits ≡ pair_classes images.now) }
+    ensures sized { IfOk result (λ orbits. orbits ≡ block_classes images.now (2 ∷ [])) }
+{
+    images.points();
     let mut found = Vec::new(alloc);
-    find(alloc, &images, 2, &mut found)?;
+    find(alloc, images, 2, &mut found)?;
     Ok(Orbits { found })
 }
 
@@ -153,21 +163,37 @@ pub fn sized_orbits(alloc: Global, maps: &Maps, sizes: &[u8]) -> Result<Orbits, 
     ensures few { sum_by (binomial_of (point_count maps.now)) sizes.now ≤ MOST_SUMMED → IfErr result (λ e. e ≡ OutOfMemoryError) }
 {
     let points = maps.points();
-    let sum = summed(points, sizes);
+    let sum = count_blocks(points, sizes);
     if sum > MOST_SUMMED {
         return Err(OrbitError::TooManySummed { points, sum });
     }
     let images = Images::new(alloc, maps)?;
+    match orbits_of_sizes(alloc, &images, sizes) {
+        Ok(orbits) => Ok(orbits),
+        Err(_) => Err(OrbitError::OutOfMemory),
+    }
+}
+
+/// The orbits of all blocks that have one of the sizes, numbered together, under the maps of a table that is there already.
+/// The sizes increase strictly from 2 to the number of points, there is one, and there are at most `MOST_SUMMED` such blocks.
+pub fn orbits_of_sizes(alloc: Global, images: &Images, sizes: &[u8]) -> Result<Orbits, OutOfMemory>
+    requires some { 0 < length sizes.now }
+    requires rising { IsStrictlyIncreasing sizes.now }
+    requires range { All (λ k. (2 ≤ k) × (k ≤ point_count images.now)) sizes.now }
+    requires few { sum_by (binomial_of (point_count images.now)) sizes.now ≤ MOST_SUMMED }
+    ensures { IfOk result (λ orbits. orbits ≡ block_classes images.now sizes.now) }
+{
+    images.points();
     let mut found = Vec::new(alloc);
     for size in sizes {
-        find(alloc, &images, *size, &mut found)?;
+        find(alloc, images, *size, &mut found)?;
     }
     found.sort()?;
     Ok(Orbits { found })
 }
 
-// How many blocks have one of the sizes.
-fn summed(points: u8, sizes: &[u8]) -> u128
+/// How many blocks of points below `points` have one of the sizes, which increase strictly from 2 to the number of points.
+pub fn count_blocks(points: u8, sizes: &[u8]) -> u128
     requires small { points ≤ 128 }
     requires rising { IsStrictlyIncreasing sizes.now }
     requires range { All (λ k. (2 ≤ k) × (k ≤ points)) sizes.now }

@@ -1,6 +1,8 @@
 // What no clause says: that each call succeeds, and values worked out by hand.
 
-use super::{OrbitError, PairNumbers, pair_orbits, sized_orbits, subset_orbits};
+use super::{
+    Images, OrbitError, PairNumbers, orbits_of_pairs, pair_orbits, sized_orbits, subset_orbits,
+};
 use df_group::{Elem, Shape, Subgroup};
 use df_maps::Maps;
 use df_subsets::{Block, Point};
@@ -42,8 +44,9 @@ fn lists_pairs_of_seven(rt: HostRuntime) {
 fn numbers_pairs_of_seven(rt: HostRuntime) {
     let maps = cyclic(&rt, 7, 6);
     assert!(rt; maps.points() == 7);
-    let pairs = pair_orbits(rt.alloc(), &maps).expect(&rt, "ample memory");
-    let numbers = PairNumbers::new(rt.alloc(), &maps, &pairs).expect(&rt, "ample memory");
+    let images = Images::new(rt.alloc(), &maps).expect(&rt, "ample memory");
+    let pairs = orbits_of_pairs(rt.alloc(), &images).expect(&rt, "ample memory");
+    let numbers = PairNumbers::new(rt.alloc(), &images, &pairs).expect(&rt, "ample memory");
     assert_eq!(rt; numbers.number_of(Point(0), Point(1)), 0);
     assert_eq!(rt; numbers.number_of(Point(1), Point(6)), 1);
     assert_eq!(rt; numbers.number_of(Point(2), Point(6)), 2);

@@ -1,6 +1,4 @@
-pub mod ClassSizes
-pub mod ColumnPlaces
-pub mod Ends
-pub mod LimitLaws
-pub mod LineLengths
-pub mod LineTexts
+pub mod Endings
+pub mod Headline
+pub mod EntryLimits
+pub mod Sizes

@@ -1,8 +1,8 @@
 pub mod Answers
 pub mod Endings
+pub mod Headline
 pub mod Limits
-pub mod MatrixTexts
-pub mod OrbitTexts
+pub mod Readings
 pub mod Statuses
-pub mod Texts
-pub mod WordLists
+pub mod Streams
+pub mod Tasks

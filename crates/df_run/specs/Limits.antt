@@ -1,6 +1,5 @@
--- The limits on a problem's size, and what is told of a problem that is above one.
-use Rattle.std.specs.Prelude.{ℕ, ◌*◌, List, ◌++◌, codes, Option, Some, None}
-use Rattle.std.specs.Fmt.{decimal}
+-- The limit that a problem is above, if any.
+use Rattle.std.specs.Prelude.{◌*◌, Option, Some, None}
 use Rattle.std.specs.Option.{option_and_then}
 use Rattle.df_lang.specs.Problems.{Stated}
 use Rattle.df_matrix.specs.Limits.{subset_limit, limit_passed}
@@ -8,18 +7,18 @@ use Rattle.df_matrix.specs.declared.matrix.MatrixError.{MatrixError}
 use Rattle.df_matrix.specs.declared.matrix.MatrixError.TheVariants as matrix
 use Rattle.df_orbits.specs.declared.orbits.OrbitError.{OrbitError}
 use Rattle.df_orbits.specs.declared.orbits.OrbitError.TheVariants as orbit
-use Rattle.df_run.specs.declared.limits.Limit.{Limit}
+use Rattle.df_tell.specs.declared.limits.Limit.{Limit}
+use Rattle.df_tell.specs.declared.limits.Limit.TheVariants.{Subsets, SizedSubsets, Columns, Entries}
 use Rattle.df_run.specs.declared.limits.LimitError.{LimitError}
 use Rattle.df_run.specs.declared.limits.LimitError.TheVariants.{Above, OutOfMemory}
-use Rattle.df_run.specs.declared.limits.Limit.TheVariants.{Subsets, SizedSubsets, Columns, Entries}
 
--- why classes of blocks weren't listed, as a limit that the problem is above
+-- why the orbits of blocks were not listed, as a limit that the problem is above
 abbrev pub limit_error : OrbitError → LimitError
 limit_error (orbit.TooManySubsets v k) = Above (Subsets k v)
 limit_error (orbit.TooManySummed v sum) = Above (SizedSubsets v)
 limit_error orbit.OutOfMemory = OutOfMemory
 
--- why there is no orbit matrix, as a limit; want of memory is none
+-- why there is no orbit matrix, as a limit; out of memory is none
 abbrev pub limit_of : MatrixError → Option Limit
 limit_of (matrix.TooManySubsets v k) = Some (Subsets k v)
 limit_of (matrix.TooManySummed v sum) = Some (SizedSubsets v)
@@ -34,10 +33,3 @@ subsets_limit s = option_and_then limit_of (subset_limit s)
 -- the first limit that the orbit matrix of a problem is above: that on blocks, on columns, or on entries
 abbrev pub matrix_limit : Stated → Option Limit
 matrix_limit s = option_and_then limit_of (limit_passed s)
-
--- what is told of a limit
-unfoldable pub limit_line : Limit → List ℕ
-limit_line (Subsets k v) = (((codes "limit subsets " ++ decimal k) ++ codes " of ") ++ decimal v) ++ codes " above 2000000\n"
-limit_line (SizedSubsets v) = (codes "limit subsets of " ++ decimal v) ++ codes " above 8000000\n"
-limit_line (Columns columns) = (codes "limit columns " ++ decimal columns) ++ codes " above 65536\n"
-limit_line (Entries entries) = (codes "limit entries " ++ decimal entries) ++ codes " above 16777216\n"

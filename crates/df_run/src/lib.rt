@@ -1,23 +1,20 @@
-//! The top call: words and input to a text and a status.
-//! It stands on the crates of the language and of families for what an answer is, and on df_io for bytes.
-//! The program calls `run`; its clause says for each end what was read and what was written.
+//! The top call: words and input to a status and a text.
+//! It stands on df_words for commands, on df_tell for texts, and on the crates of the language, of families and of orbits for what an answer is.
+//! The program calls `run`. Its clause `ends` says for each status what was read and what was written, and its clause `headline` what that says of designs.
 #![tactic(auto)]
 
+mod answers;
 mod limits;
-mod lines;
 mod matrix;
-mod matrix_lines;
-mod matrix_texts;
-mod orbit_texts;
 mod orbits;
-mod status;
-mod texts;
-mod top;
-mod words;
+mod runs;
+mod statuses;
+mod tasks;
 
-pub use status::Status;
-pub use top::run;
-pub use words::{Command, UsageFault, read_words};
+pub use df_words::{Command, UsageFault, read_words};
+pub use runs::run;
+pub use statuses::Status;
+pub use tasks::SOURCE_BYTES;
 
 #[cfg(test)]
 mod matrix_tests;

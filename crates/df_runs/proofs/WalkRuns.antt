@@ -165,25 +165,25 @@ pub walk-counted : (rules : Rules) (s : System) → AllByRecursion (IsCounted (i
 walk-counted rules s = walk_from-counted rules s (length s.columns - 0) [] refl
 
 -- steps that the budget pays
-pub run_told : (rules : Rules) (s : System) (p : List Bool) (k : ℕ) (taken left : List Step) → IsStart rules s p → walk_on rules s p ≡ taken ++ left → run_of rules s p (length (nodes_in taken) + k) ≡ then_run (record { taken = taken; stop = None }) (run_over (is_node rules s) k left)
-run_told rules s p k taken left h joined =
+pub run_of_steps : (rules : Rules) (s : System) (p : List Bool) (k : ℕ) (taken left : List Step) → IsStart rules s p → walk_on rules s p ≡ taken ++ left → run_of rules s p (length (nodes_in taken) + k) ≡ then_run (record { taken = taken; stop = None }) (run_over (is_node rules s) k left)
+run_of_steps rules s p k taken left h joined =
     let steps : remaining rules s p ≡ taken ++ left = remains_is rules s p h ∙ joined in
     let counted = all_front _ taken left (subst (AllByRecursion (IsCounted (is_node rules s))) steps (steps-counted rules s p)) in
     ap (run_over (is_node rules s) (length (nodes_in taken) + k)) steps ∙ run_after (is_node rules s) k taken left counted
 
 -- all of them
-pub run_told_whole : (rules : Rules) (s : System) (p : List Bool) (n : ℕ) → IsStart rules s p → length (nodes_in (walk_on rules s p)) ≤ n → run_of rules s p n ≡ record { taken = walk_on rules s p; stop = None }
-run_told_whole rules s p n h few =
+pub run_of_all : (rules : Rules) (s : System) (p : List Bool) (n : ℕ) → IsStart rules s p → length (nodes_in (walk_on rules s p)) ≤ n → run_of rules s p n ≡ record { taken = walk_on rules s p; stop = None }
+run_of_all rules s p n h few =
     let k = n - length (nodes_in (walk_on rules s p)) in
     let e : n ≡ length (nodes_in (walk_on rules s p)) + k = omega arith in
-    ap (run_of rules s p) e ∙ run_told rules s p k (walk_on rules s p) [] h (sym (append-nil (walk_on rules s p))) ∙ rw (append-nil (walk_on rules s p))
+    ap (run_of rules s p) e ∙ run_of_steps rules s p k (walk_on rules s p) [] h (sym (append-nil (walk_on rules s p))) ∙ rw (append-nil (walk_on rules s p))
 
 -- up to a node that the budget doesn't pay
-pub run_told_spent : (rules : Rules) (s : System) (p q : List Bool) (e : Entry) (taken more : List Step) → IsStart rules s p → walk_on rules s p ≡ taken ++ (q, e) ∷ more → is_node rules s q ≡ true → run_of rules s p (length (nodes_in taken)) ≡ record { taken = taken; stop = Some q }
-run_told_spent rules s p q e taken more h joined node =
+pub run_to_node : (rules : Rules) (s : System) (p q : List Bool) (e : Entry) (taken more : List Step) → IsStart rules s p → walk_on rules s p ≡ taken ++ (q, e) ∷ more → is_node rules s q ≡ true → run_of rules s p (length (nodes_in taken)) ≡ record { taken = taken; stop = Some q }
+run_to_node rules s p q e taken more h joined node =
     let n : length (nodes_in taken) ≡ length (nodes_in taken) + 0 = omega arith in
     let stops : run_over (is_node rules s) 0 ((q, e) ∷ more) ≡ record { taken = []; stop = Some q } = rw node in
-    ap (run_of rules s p) n ∙ run_told rules s p 0 taken ((q, e) ∷ more) h joined ∙ ap (then_run (record { taken = taken; stop = None })) stops ∙ rw (append-nil taken)
+    ap (run_of rules s p) n ∙ run_of_steps rules s p 0 taken ((q, e) ∷ more) h joined ∙ ap (then_run (record { taken = taken; stop = None })) stops ∙ rw (append-nil taken)
 
 -- the stop is the first that can be one
 pub run_stops_first : (rules : Rules) (s : System) (p : List Bool) (n : ℕ) → StopsFirst rules s p n (run_of rules s p n).taken (run_of rules s p n).stop
@@ -204,8 +204,8 @@ counted_node : (b : Bool) (step : Step) (q : List Bool) → node_of step ≡ cou
 counted_node true step q c h = refl
 counted_node false step q c h = cc
 
-pub run_told_unpaid : (rules : Rules) (s : System) (p q : List Bool) (e : Entry) (taken more : List Step) → IsStart rules s p → walk_on rules s p ≡ taken ++ (q, e) ∷ more → node_of (q, e) ≡ Some q → run_of rules s p (length (nodes_in taken)) ≡ record { taken = taken; stop = Some q }
-run_told_unpaid rules s p q e taken more h joined counts =
+pub run_to_unpaid : (rules : Rules) (s : System) (p q : List Bool) (e : Entry) (taken more : List Step) → IsStart rules s p → walk_on rules s p ≡ taken ++ (q, e) ∷ more → node_of (q, e) ≡ Some q → run_of rules s p (length (nodes_in taken)) ≡ record { taken = taken; stop = Some q }
+run_to_unpaid rules s p q e taken more h joined counts =
     let steps : remaining rules s p ≡ taken ++ (q, e) ∷ more = remains_is rules s p h ∙ joined in
     let counted = (all_back _ taken ((q, e) ∷ more) (subst (AllByRecursion (IsCounted (is_node rules s))) steps (steps-counted rules s p))).0 in
-    run_told_spent rules s p q e taken more h joined (counted_node (is_node rules s q) (q, e) q counted counts)
+    run_to_node rules s p q e taken more h joined (counted_node (is_node rules s q) (q, e) q counted counts)

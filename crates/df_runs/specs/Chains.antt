@@ -43,13 +43,13 @@ chain_run s start legs = record { taken = steps_of (chain_from s start legs); st
 abbrev pub legs_of : Rules → List ℕ → List Leg
 legs_of rules budgets = map (λ n. record { rules = rules; budget = n }) budgets
 
--- behind the path: at each yes, from the last to the first, the path cut before it, with no
+-- after the path: at each yes, from the last to the first, the path cut before it, with no
 abbrev pub later_open : ℕ → List Bool → List Bool → List Decisions
 later_open columns before [] = []
 later_open columns before (true ∷ p) = later_open columns (before ++ true ∷ []) p ++ padded columns (before ++ false ∷ []) ∷ []
 later_open columns before (false ∷ p) = later_open columns (before ++ false ∷ []) p
 
--- the path, and what is behind it
+-- the path, and what comes after it
 abbrev pub open_at : ℕ → List Bool → List Decisions
 open_at columns p = padded columns p ∷ later_open columns [] p
 

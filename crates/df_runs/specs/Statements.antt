@@ -17,7 +17,7 @@ use Rattle.df_walk.specs.Logs.{Proves, AreLogs, Completes, RowPasses, CutPasses,
 use Rattle.df_runs.specs.Orders.{Ascend, StandOnce, IsCutBetween}
 use Rattle.df_runs.specs.Runs.{run_of, then_run, walk_at, rest_at, IsRunFrom, IsCounted, StopsFirst}
 use Rattle.df_runs.specs.Chains.{chain_run, Leg, chain_from, chain_stop, AreAllowed, steps_of, legs_of, open_at, open_at_stop}
-use Rattle.df_runs.specs.Waiting.{standing_at, Standing, waiting, wanted, wanted_of, reopened, AreStanding, taken_up, left_behind}
+use Rattle.df_runs.specs.Waiting.{standing_at, Standing, waiting, wanted, wanted_of, reopened, AreStanding, taken_up, left_out}
 use Rattle.df_runs.specs.WeightedSums.{IsWeighted, IsBounded, SumsWithin}
 
 -- the steps of a walk stand in order, each path once
@@ -45,14 +45,14 @@ abbrev pub RunsStopFirst : Type 0
 RunsStopFirst = (rules : Rules) (s : System) (p : List Bool) (n : ℕ) → StopsFirst rules s p n (run_of rules s p n).taken (run_of rules s p n).stop
 
 -- steps taken from a start, and nothing or an unpaid node after them, are the run
-pub record RunsTold (rules : Rules) (s : System) (p : List Bool) : Type 0 where
+pub record AreRuns (rules : Rules) (s : System) (p : List Bool) : Type 0 where
   pub whole : (n : ℕ) → length (nodes_in (walk_on rules s p)) ≤ n → run_of rules s p n ≡ record { taken = walk_on rules s p; stop = None }
   pub spent : (q : List Bool) (e : Entry) (taken more : List Step) → walk_on rules s p ≡ taken ++ (q, e) ∷ more → is_node rules s q ≡ true → run_of rules s p (length (nodes_in taken)) ≡ record { taken = taken; stop = Some q }
   -- the same, where the entry counts as a node
   pub unpaid : (q : List Bool) (e : Entry) (taken more : List Step) → walk_on rules s p ≡ taken ++ (q, e) ∷ more → node_of (q, e) ≡ Some q → run_of rules s p (length (nodes_in taken)) ≡ record { taken = taken; stop = Some q }
 
-abbrev pub RunsAreTold : Type 0
-RunsAreTold = (rules : Rules) (s : System) (p : List Bool) → IsStart rules s p → RunsTold rules s p
+abbrev pub StepsAreRuns : Type 0
+StepsAreRuns = (rules : Rules) (s : System) (p : List Bool) → IsStart rules s p → AreRuns rules s p
 
 -- a run, and from its stop another, are the run with both budgets
 abbrev pub RunsJoin : Type 0
@@ -126,14 +126,14 @@ pub record WantedMoves (ds : Decisions) (column : ℕ) (trail : List Standing) :
   -- a branch: what it wants next
   pub take : slice_get ds column ≡ Some None → wanted (slice_set ds column (Some true)) (taken_up column trail) ≡ slice_set ds column (Some true) ∷ slice_set ds column (Some false) ∷ waiting ds trail
   -- its second half
-  pub leave : waiting ds (taken_up column trail) ≡ wanted (slice_set ds column (Some false)) (left_behind column trail)
+  pub leave : waiting ds (taken_up column trail) ≡ wanted (slice_set ds column (Some false)) (left_out column trail)
   -- both are done
-  pub undo : waiting ds (left_behind column trail) ≡ waiting (slice_set ds column None) trail
+  pub undo : waiting ds (left_out column trail) ≡ waiting (slice_set ds column None) trail
 
 abbrev pub WantedIsKept : Type 0
 WantedIsKept = (ds : Decisions) (column : ℕ) (trail : List Standing) → WantedMoves ds column trail
 
--- one log is what completes its assignment with nothing behind it
+-- one log is what completes its assignment with nothing after it
 abbrev pub LogsAreOne : Type 0
 LogsAreOne = (s : System) (ds : Decisions) (E : List Entry) (L : List (List ℕ)) → Proves s ds E L ↔ Completes s (wanted ds []) E L
 
@@ -149,7 +149,7 @@ WeightedSumsAreBounded = (s : System) (ds : Decisions) (ws : List CutRow) (rows 
 abbrev pub WeightedSumsFit : Type 0
 WeightedSumsFit = (s : System) (ds : Decisions) (ws : List CutRow) → length ws ≤ 16 → AllByRecursion (IsWeighted s 1000) ws → IsBounded s 65536 8000000 2000000 → SumsWithin s ds ws 9000000000000000 128000000000 9000000000000000
 
--- closing a leaf: the last branch whose no is still to come gets it, and those behind it are undone
+-- closing a leaf: the last branch whose no is still to come gets it, and those after it are undone
 pub record LeavesReopen (ds : Decisions) (trail : List Standing) : Type 0 where
   pub waiting_is : waiting ds trail ≡ wanted_of (reopened ds trail)
 

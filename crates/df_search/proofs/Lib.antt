@@ -4,5 +4,5 @@ pub mod StandingPaths
 pub mod HeldNeeds
 pub mod SearchSteps
 pub mod PassedSteps
-pub mod ToldAnswers
+pub mod EventAnswers
 pub mod FollowedPaths

@@ -9,7 +9,7 @@ use Rattle.df_walk.specs.declared.Entry.TheVariants as entry
 use Rattle.df_walk.specs.Systems.{System}
 use Rattle.df_walk.specs.Solutions.{yes_vector}
 use Rattle.df_walk.specs.Walks.{Step, decided, entry_at, is_branch, walk_from, below}
-use Rattle.df_walk.specs.Remains.{later_walk, walk_on, IsVisitedFrom, IsVisited, behind_first, turned}
+use Rattle.df_walk.specs.Remains.{later_walk, walk_on, IsVisitedFrom, IsVisited, after_first, turned}
 use Rattle.df_walk.proofs.WalkSteps.{walk_on_from, walk_on_first, later_walk-turned, walk_on_over, walk_on_under, walk_on_residue, walk_on_settled, walk_on_branch, branch_leaves}
 use Rattle.df_search.specs.declared.Event.{Event}
 use Rattle.df_search.specs.declared.Event.TheVariants.{Branch, Over, Under, Residue, Solution, Spent, Finished}
@@ -18,10 +18,10 @@ use Rattle.df_search.specs.declared.search.State.TheVariants.{Here, Below, Past,
 use Rattle.df_search.specs.declared.held_path.Verdict.{Verdict}
 use Rattle.df_search.specs.declared.held_path.Verdict.TheVariants as verdict
 use Rattle.df_search.specs.HeldPaths.{Held, TurnsTo, as_entry}
-use Rattle.df_search.specs.Searches.{Searching, left_of, chosen_of, search_of, next_path_of, Answers, AdvancesBy, Advances, stopped, IsReady, IsFit, IsOnWalk}
+use Rattle.df_search.specs.Searches.{Searching, rest_of, chosen_of, search_of, next_path_of, Answers, AdvancesBy, Advances, stopped, IsReady, IsFit, IsOnWalk}
 
 -- what is left goes on at the next path
-left_is : (st : State) (rules : Rules) (s : System) (p : List Bool) → left_of st rules s p ≡ walk_on_from rules s [] (next_path_of st p)
+left_is : (st : State) (rules : Rules) (s : System) (p : List Bool) → rest_of st rules s p ≡ walk_on_from rules s [] (next_path_of st p)
 left_is Here rules s p = refl
 left_is Below rules s p = refl
 left_is Past rules s p = later_walk-turned rules s [] p
@@ -38,7 +38,7 @@ visited_turned : (rules : Rules) (s : System) (before p q : List Bool) → turne
 visited_turned rules s before [] q h v = absurd (let e = h in cc)
 visited_turned rules s before (b ∷ p) q h v = go b (turned p) h v (λ r is. visited_turned rules s (before ++ b ∷ []) p r is v.1) refl
   where
-    go : (b : Bool) (o : Option (List Bool)) → behind_first b o ≡ Some q → IsVisitedFrom rules s before (b ∷ p) → ((r : List Bool) → turned p ≡ Some r → IsVisitedFrom rules s (before ++ b ∷ []) r) → turned p ≡ o → IsVisitedFrom rules s before q
+    go : (b : Bool) (o : Option (List Bool)) → after_first b o ≡ Some q → IsVisitedFrom rules s before (b ∷ p) → ((r : List Bool) → turned p ≡ Some r → IsVisitedFrom rules s (before ++ b ∷ []) r) → turned p ≡ o → IsVisitedFrom rules s before q
     go b (Some r) h v ih is =
         let e : b ∷ r ≡ q = cc in
         let w : IsVisitedFrom rules s before (b ∷ r) = (v.0, ih r is) in
@@ -61,17 +61,17 @@ pub record Came (left : List Step) (rules : Rules) (s : System) (q : List Bool) 
   pub left_on : left ≡ walk_on rules s q
   pub visited : IsVisited rules s q
 
-pub came : (st : State) (rules : Rules) (s : System) (p q : List Bool) → IsVisited rules s p → IsFit st rules s p → TurnsTo (next_path_of st p) true q → Came (left_of st rules s p) rules s q
+pub came : (st : State) (rules : Rules) (s : System) (p q : List Bool) → IsVisited rules s p → IsFit st rules s p → TurnsTo (next_path_of st p) true q → Came (rest_of st rules s p) rules s q
 came st rules s p q visited fit turns = go (next_path_of st p) (left_is st rules s p) (λ r h. next_visited st rules s p r h visited fit) turns refl
   where
-    go : (o : Option (List Bool)) → left_of st rules s p ≡ walk_on_from rules s [] o → ((r : List Bool) → next_path_of st p ≡ Some r → IsVisited rules s r) → TurnsTo o true q → next_path_of st p ≡ o → Came (left_of st rules s p) rules s q
+    go : (o : Option (List Bool)) → rest_of st rules s p ≡ walk_on_from rules s [] o → ((r : List Bool) → next_path_of st p ≡ Some r → IsVisited rules s r) → TurnsTo o true q → next_path_of st p ≡ o → Came (rest_of st rules s p) rules s q
     go None left seen t is = absurd (true≢false t.0)
     go (Some r) left seen t is = record { left_on = left ∙ ap (walk_on rules s) (sym t.1); visited = subst (λ l. IsVisited rules s l) (sym t.1) (seen r is) }
 
-pub came_none : (st : State) (rules : Rules) (s : System) (p q : List Bool) → TurnsTo (next_path_of st p) false q → (left_of st rules s p ≡ []) × (q ≡ [])
+pub came_none : (st : State) (rules : Rules) (s : System) (p q : List Bool) → TurnsTo (next_path_of st p) false q → (rest_of st rules s p ≡ []) × (q ≡ [])
 came_none st rules s p q turns = go (next_path_of st p) (left_is st rules s p) turns
   where
-    go : (o : Option (List Bool)) → left_of st rules s p ≡ walk_on_from rules s [] o → TurnsTo o false q → (left_of st rules s p ≡ []) × (q ≡ [])
+    go : (o : Option (List Bool)) → rest_of st rules s p ≡ walk_on_from rules s [] o → TurnsTo o false q → (rest_of st rules s p ≡ []) × (q ≡ [])
     go None left t = (left, t.1)
     go (Some r) left t = absurd (false≢true t.0)
 
@@ -91,25 +91,25 @@ ready Past rules s p h = tt
 ready Solved rules s p h = tt
 ready Done rules s p h = h
 
-module _ (old : Searching) (held : Held) (on : old.left ≡ walk_on old.rules old.system held.path) (same : held.system ≡ old.system) where
-  becomes : (st : State) (more : List Step) (budget after : ℕ) (event : Event) (e : Entry) → old.left ≡ (held.path, e) ∷ more → AdvancesBy old ((held.path, e) ∷ more) budget event (search_of st old.rules (record { system = old.system; path = held.path })) after → Advances old budget event (search_of st old.rules held) after
+module _ (old : Searching) (held : Held) (on : old.rest ≡ walk_on old.rules old.system held.path) (same : held.system ≡ old.system) where
+  becomes : (st : State) (more : List Step) (budget after : ℕ) (event : Event) (e : Entry) → old.rest ≡ (held.path, e) ∷ more → AdvancesBy old ((held.path, e) ∷ more) budget event (search_of st old.rules (record { system = old.system; path = held.path })) after → Advances old budget event (search_of st old.rules held) after
   becomes st more budget after event e left h =
-      let first : AdvancesBy old old.left budget event (search_of st old.rules (record { system = old.system; path = held.path })) after = subst (λ l. AdvancesBy old l budget event (search_of st old.rules (record { system = old.system; path = held.path })) after) (sym left) h in
+      let first : AdvancesBy old old.rest budget event (search_of st old.rules (record { system = old.system; path = held.path })) after = subst (λ l. AdvancesBy old l budget event (search_of st old.rules (record { system = old.system; path = held.path })) after) (sym left) h in
       rw same first
 
   -- the search that stays
   same_search : search_of Here old.rules held ≡ stopped old held.path
   same_search =
-      let f : List Step → Searching = λ l. record { system = old.system; rules = old.rules; left = l; path = held.path; place = Some held.path; chosen = None } in
+      let f : List Step → Searching = λ l. record { system = old.system; rules = old.rules; rest = l; path = held.path; place = Some held.path; chosen = None } in
       rw same (ap f (sym on))
 
   stays : (e : Entry) (budget : ℕ) → entry_at old.rules old.system held.path ≡ e → ((more : List Step) → AdvancesBy old ((held.path, e) ∷ more) 0 Spent (stopped old held.path) 0) → budget ≡ 0 → Advances old budget Spent (search_of Here old.rules held) 0
   stays e budget is stops none =
       let first = walk_on_first old.rules old.system held.path in
-      let left : old.left ≡ (held.path, e) ∷ first.0 = on ∙ first.1 ∙ ap (λ x. (held.path, x) ∷ first.0) is in
-      let h : AdvancesBy old old.left 0 Spent (stopped old held.path) 0 = subst (λ l. AdvancesBy old l 0 Spent (stopped old held.path) 0) (sym left) (stops first.0) in
-      let k : AdvancesBy old old.left 0 Spent (search_of Here old.rules held) 0 = subst (λ q. AdvancesBy old old.left 0 Spent q 0) (sym same_search) h in
-      subst (λ n. AdvancesBy old old.left n Spent (search_of Here old.rules held) 0) (sym none) k
+      let left : old.rest ≡ (held.path, e) ∷ first.0 = on ∙ first.1 ∙ ap (λ x. (held.path, x) ∷ first.0) is in
+      let h : AdvancesBy old old.rest 0 Spent (stopped old held.path) 0 = subst (λ l. AdvancesBy old l 0 Spent (stopped old held.path) 0) (sym left) (stops first.0) in
+      let k : AdvancesBy old old.rest 0 Spent (search_of Here old.rules held) 0 = subst (λ q. AdvancesBy old old.rest 0 Spent q 0) (sym same_search) h in
+      subst (λ n. AdvancesBy old old.rest n Spent (search_of Here old.rules held) 0) (sym none) k
 
   pub advances : (v : Verdict) (budget after : ℕ) (st : State) (event : Event) → as_entry v (length held.path) ≡ entry_at old.rules old.system held.path → Answers v (length held.path) budget st event after → Advances old budget event (search_of st old.rules held) after
   advances (verdict.Over r) budget after st event is a =
@@ -128,9 +128,9 @@ module _ (old : Searching) (held : Held) (on : old.left ≡ walk_on old.rules ol
       rw (a.1, a.2, n) (becomes Below _ (suc after) after (Branch (length held.path)) (entry.Branch (length held.path)) (on ∙ walk_on_branch old.rules old.system held.path (length held.path) (sym is)) (refl, refl, refl))
 
 -- nothing is left
-pub finishes : (old : Searching) (held : Held) (budget : ℕ) → old.left ≡ [] → held.system ≡ old.system → held.path ≡ [] → Advances old budget Finished (search_of Done old.rules held) budget
+pub finishes : (old : Searching) (held : Held) (budget : ℕ) → old.rest ≡ [] → held.system ≡ old.system → held.path ≡ [] → Advances old budget Finished (search_of Done old.rules held) budget
 finishes old held budget left same none =
-    let h : AdvancesBy old old.left budget Finished (search_of Done old.rules (record { system = old.system; path = [] })) budget = subst (λ l. AdvancesBy old l budget Finished (search_of Done old.rules (record { system = old.system; path = [] })) budget) (sym left) (refl, refl, refl) in
+    let h : AdvancesBy old old.rest budget Finished (search_of Done old.rules (record { system = old.system; path = [] })) budget = subst (λ l. AdvancesBy old l budget Finished (search_of Done old.rules (record { system = old.system; path = [] })) budget) (sym left) (refl, refl, refl) in
     rw (same, none) h
 
 -- the search goes on from there

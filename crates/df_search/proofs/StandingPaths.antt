@@ -6,6 +6,7 @@ use Rattle.std.proofs.Math.Seq.{take-append_seam}
 use Rattle.df_walk.specs.Systems.{System, IsSystem}
 use Rattle.df_walk.specs.Remains.{padded, down_from}
 use Rattle.df_walk.proofs.PaddedPaths.{padded_push, padded_pop, padded_free}
+use Rattle.df_system.specs.declared.limits.TheConstants.{MOST_ENTRIES}
 use Rattle.df_system.specs.Trails.{Assigned}
 use Rattle.df_search.specs.HeldPaths.{StandsAt, IsHeld}
 
@@ -36,7 +37,7 @@ pub StandsAt-take : {n : ℕ} {a : Assigned} {values q : List Bool} → StandsAt
 StandsAt-take {n} {a} {values} {q} at = ap (take (length q)) at.values_are ∙ take-append_seam q (replicate (n - length q) false)
 
 -- a path that is held, by its length
-pub IsHeld-from_At : {s : System} {a : Assigned} {values q : List Bool} (count : ℕ) → IsSystem s → a.system ≡ s → length s.columns ≤ 16777216 → StandsAt (length s.columns) a values q → count ≡ length q → IsHeld s a values count
+pub IsHeld-from_At : {s : System} {a : Assigned} {values q : List Bool} (count : ℕ) → IsSystem s → a.system ≡ s → length s.columns ≤ MOST_ENTRIES → StandsAt (length s.columns) a values q → count ≡ length q → IsHeld s a values count
 IsHeld-from_At {s} {a} {values} {q} count ok same few at n =
     let front : take count values ≡ q = ap (λ k. take k values) n ∙ StandsAt-take at in
     let all : length values ≡ length q + length (replicate (length s.columns - length q) false) = ap length at.values_are ∙ length-append q (replicate (length s.columns - length q) false) in

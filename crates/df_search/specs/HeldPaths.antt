@@ -4,6 +4,7 @@ use Rattle.df_walk.specs.declared.Entry.{Entry}
 use Rattle.df_walk.specs.declared.Entry.TheVariants as entry
 use Rattle.df_walk.specs.Systems.{System, IsSystem}
 use Rattle.df_walk.specs.Remains.{padded, down_from}
+use Rattle.df_system.specs.declared.limits.TheConstants.{MOST_ENTRIES}
 use Rattle.df_system.specs.Trails.{Assigned}
 use Rattle.df_search.specs.Divisors.{HaveNoDivisors}
 use Rattle.df_search.specs.declared.held_path.Verdict.{Verdict}
@@ -21,11 +22,11 @@ pub record StandsAt (columns : ℕ) (a : Assigned) (values q : List Bool) : Type
   pub decisions : a.decisions ≡ padded columns q
   pub trail : a.trail ≡ down_from (length q)
 
--- so does the path of so many columns
+-- so does the path of this many columns
 pub record IsHeld (s : System) (a : Assigned) (values : List Bool) (count : ℕ) : Type 0 where
   pub is_system : IsSystem s
   pub same : a.system ≡ s
-  pub few : length s.columns ≤ 16777216
+  pub few : length s.columns ≤ MOST_ENTRIES
   pub short : count ≤ length values
   pub at : StandsAt (length s.columns) a values (take count values)
 
@@ -39,7 +40,7 @@ abbrev pub TurnsTo : Option (List Bool) → Bool → List Bool → Type 0
 TurnsTo (Some q) found path = (found ≡ true) × (path ≡ q)
 TurnsTo None found path = (found ≡ false) × (path ≡ [])
 
--- the entry that a verdict tells, at a path of so many columns
+-- the entry that a verdict answer_of, at a path of this many columns
 abbrev pub as_entry : Verdict → ℕ → Entry
 as_entry (Over row) column = entry.Over row
 as_entry (Under row) column = entry.Under row

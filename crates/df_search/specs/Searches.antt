@@ -22,7 +22,7 @@ pub record Searching : Type 0 where
   pub system : System
   pub rules : Rules
   -- the entries of the walk that are still to come, each with its path
-  pub left : List Step
+  pub rest : List Step
   -- the path of the last entry answered: before any, where the search began; after `Spent`, where it goes on; after `Finished`, the empty path
   pub path : List Bool
   -- the path at which the walk goes on, where no call was made yet or the last answer was `Spent`
@@ -32,30 +32,30 @@ pub record Searching : Type 0 where
 
 -- a search at a path, of which no call was made
 abbrev pub begun : System → Rules → List Bool → List Step → Searching
-begun s rules p left = record { system = s; rules = rules; left = left; path = p; place = Some p; chosen = None }
+begun s rules p steps = record { system = s; rules = rules; rest = steps; path = p; place = Some p; chosen = None }
 
 -- the solutions that remain, and how many nodes
-abbrev pub solutions_left : Searching → List (List Bool)
-solutions_left q = solutions_in q.system q.left
+abbrev pub rest_solutions : Searching → List (List Bool)
+rest_solutions q = solutions_in q.system q.rest
 
-abbrev pub nodes_left : Searching → ℕ
-nodes_left q = length (nodes_in q.left)
+abbrev pub rest_nodes : Searching → ℕ
+rest_nodes q = length (nodes_in q.rest)
 
 -- the search may be asked for its place, the path, by which the walk comes: what remains are the entries that aren't before it, and they have its rest and its load
 pub record StandsBefore (q : Searching) (p : List Bool) : Type 0 where
   pub place : q.place ≡ Some p
   pub start : IsStart q.rules q.system p
-  pub entries : q.left ≡ remaining q.rules q.system p
-  pub goes_on : q.left ≡ walk_on q.rules q.system p
-  pub solutions : solutions_left q ≡ rest q.system p
-  pub nodes : nodes_left q ≡ load q.rules q.system p
+  pub entries : q.rest ≡ remaining q.rules q.system p
+  pub goes_on : q.rest ≡ walk_on q.rules q.system p
+  pub solutions : rest_solutions q ≡ rest q.system p
+  pub nodes : rest_nodes q ≡ load q.rules q.system p
 
 -- the search once the entry at a path is answered, and once it is answered as a solution
 abbrev pub answered : Searching → List Bool → List Step → Searching
-answered q p more = record q { left = more; path = p; place = None; chosen = None }
+answered q p more = record q { rest = more; path = p; place = None; chosen = None }
 
 abbrev pub solved : Searching → List Bool → List Step → Searching
-solved q p more = record q { left = more; path = p; place = None; chosen = Some (yes_vector (length q.system.columns) (decided p)) }
+solved q p more = record q { rest = more; path = p; place = None; chosen = Some (yes_vector (length q.system.columns) (decided p)) }
 
 -- the search that stays before the entry at a path
 abbrev pub stopped : Searching → List Bool → Searching
@@ -63,7 +63,7 @@ stopped q p = record q { path = p; place = Some p; chosen = None }
 
 -- the search with nothing left
 abbrev pub ended : Searching → Searching
-ended q = record q { left = []; path = []; place = None; chosen = None }
+ended q = record q { rest = []; path = []; place = None; chosen = None }
 
 -- the answer by what is left: its first entry, if the budget allows it, or else that the budget is spent or nothing is left
 abbrev pub AdvancesBy : Searching → List Step → ℕ → Event → Searching → ℕ → Type 0
@@ -78,16 +78,16 @@ AdvancesBy q ((p, entry.Branch c) ∷ more) zero event new after = (event ≡ Sp
 AdvancesBy q ((p, entry.Branch c) ∷ more) (suc n) event new after = (event ≡ Branch c) × (new ≡ answered q p more) × (after ≡ n)
 
 abbrev pub Advances : Searching → ℕ → Event → Searching → ℕ → Type 0
-Advances q budget event new after = AdvancesBy q q.left budget event new after
+Advances q budget event new after = AdvancesBy q q.rest budget event new after
 
 -- the first entries are passed, among which are these solutions, and the budget falls by their nodes: what remained are these and those that remain
 pub record Passes (q : Searching) (budget : ℕ) (new : Searching) (after : ℕ) (found : List (List Bool)) : Type 0 where
   pub passed : List Step
-  pub joined : q.left ≡ passed ++ new.left
+  pub joined : q.rest ≡ passed ++ new.rest
   pub solutions : solutions_in q.system passed ≡ found
   pub nodes : budget ≡ length (nodes_in passed) + after
-  pub solutions_remain : solutions_left q ≡ found ++ solutions_left new
-  pub nodes_remain : nodes_left q + after ≡ nodes_left new + budget
+  pub solutions_remain : rest_solutions q ≡ found ++ rest_solutions new
+  pub nodes_remain : rest_nodes q + after ≡ rest_nodes new + budget
   pub system : new.system ≡ q.system
   pub rules : new.rules ≡ q.rules
 
@@ -96,7 +96,7 @@ pub record Finds (q : Searching) (budget : ℕ) (new : Searching) (after : ℕ) 
   pub solution : List Bool
   pub passes : Passes q budget new after (solution ∷ [])
   pub before : List Step
-  pub entries : q.left ≡ before ++ (new.path, entry.Settled) ∷ new.left
+  pub entries : q.rest ≡ before ++ (new.path, entry.Settled) ∷ new.rest
   pub none_before : solutions_in q.system before ≡ []
   pub solution_is : solution ≡ yes_vector (length q.system.columns) (decided new.path)
   pub chosen : new.chosen ≡ Some solution
@@ -109,14 +109,14 @@ pub record Stops (q : Searching) (budget : ℕ) (new : Searching) (after : ℕ) 
   pub node : IsNode new.rules new.system new.path
   pub next : Entry
   pub later : List Step
-  pub first : new.left ≡ (new.path, next) ∷ later
+  pub first : new.rest ≡ (new.path, next) ∷ later
   pub counts : node_of (new.path, next) ≡ Some new.path
-  pub more : 0 < nodes_left new
+  pub more : 0 < rest_nodes new
 
 -- all of them, with no solution
 pub record Ends (q : Searching) (budget : ℕ) (new : Searching) (after : ℕ) : Type 0 where
   pub passes : Passes q budget new after []
-  pub end : new.left ≡ []
+  pub end : new.rest ≡ []
   pub path : new.path ≡ []
 
 -- what an answer of `next` says
@@ -127,34 +127,34 @@ Turns q budget turn.Finished new after = Ends q budget new after
 
 -- the first entry is answered, and the budget pays it where its path is a node
 pub record Gives (q : Searching) (budget : ℕ) (e : Entry) (new : Searching) (after : ℕ) : Type 0 where
-  pub first : q.left ≡ (new.path, e) ∷ new.left
+  pub first : q.rest ≡ (new.path, e) ∷ new.rest
   pub passes : Passes q budget new after (solutions_in q.system ((new.path, e) ∷ []))
   pub paid : budget ≡ length (nodes_in ((new.path, e) ∷ [])) + after
 
--- the answer tells a solution, for which the search may be asked
+-- the answer answer_of a solution, for which the search may be asked
 pub record GivesSolution (q : Searching) (budget : ℕ) (new : Searching) (after : ℕ) : Type 0 where
   pub gives : Gives q budget entry.Settled new after
   pub finds : Finds q budget new after
 
 -- the search stays before a node that the budget doesn't allow
 pub record Stays (q : Searching) (budget : ℕ) (new : Searching) (after : ℕ) : Type 0 where
-  pub same : new.left ≡ q.left
+  pub same : new.rest ≡ q.rest
   pub stops : Stops q budget new after
 
 -- nothing remained
 pub record HasEnded (q : Searching) (budget : ℕ) (new : Searching) (after : ℕ) : Type 0 where
-  pub none : q.left ≡ []
+  pub none : q.rest ≡ []
   pub ends : Ends q budget new after
 
 -- what an answer of `advance` says
-abbrev pub Tells : Searching → ℕ → Event → Searching → ℕ → Type 0
-Tells q budget (Branch c) new after = Gives q budget (entry.Branch c) new after
-Tells q budget (Over r) new after = Gives q budget (entry.Over r) new after
-Tells q budget (Under r) new after = Gives q budget (entry.Under r) new after
-Tells q budget (Residue r m) new after = Gives q budget (entry.Residue r m) new after
-Tells q budget Solution new after = GivesSolution q budget new after
-Tells q budget Spent new after = Stays q budget new after
-Tells q budget Finished new after = HasEnded q budget new after
+abbrev pub IsAnswer : Searching → ℕ → Event → Searching → ℕ → Type 0
+IsAnswer q budget (Branch c) new after = Gives q budget (entry.Branch c) new after
+IsAnswer q budget (Over r) new after = Gives q budget (entry.Over r) new after
+IsAnswer q budget (Under r) new after = Gives q budget (entry.Under r) new after
+IsAnswer q budget (Residue r m) new after = Gives q budget (entry.Residue r m) new after
+IsAnswer q budget Solution new after = GivesSolution q budget new after
+IsAnswer q budget Spent new after = Stays q budget new after
+IsAnswer q budget Finished new after = HasEnded q budget new after
 
 -- the number of calls of `advance` that give the same answers: one for each entry passed, and one for the own answer where that is no entry
 abbrev pub own_calls : Turn → ℕ
@@ -163,15 +163,15 @@ own_calls turn.Spent = 1
 own_calls turn.Finished = 1
 
 abbrev pub calls_of : Searching → Turn → Searching → ℕ
-calls_of q t new = length q.left - length new.left + own_calls t
+calls_of q t new = length q.rest - length new.rest + own_calls t
 
 -- where the next entry stands: at the path, below it, past it (a solution or not), or nowhere
-abbrev pub left_of : State → Rules → System → List Bool → List Step
-left_of Here rules s p = walk_on rules s p
-left_of Below rules s p = walk_on rules s (p ++ true ∷ [])
-left_of Past rules s p = later_walk rules s [] p
-left_of Solved rules s p = later_walk rules s [] p
-left_of Done rules s p = []
+abbrev pub rest_of : State → Rules → System → List Bool → List Step
+rest_of Here rules s p = walk_on rules s p
+rest_of Below rules s p = walk_on rules s (p ++ true ∷ [])
+rest_of Past rules s p = later_walk rules s [] p
+rest_of Solved rules s p = later_walk rules s [] p
+rest_of Done rules s p = []
 
 abbrev pub place_of : State → List Bool → Option (List Bool)
 place_of Here p = Some p
@@ -197,13 +197,13 @@ next_path_of Done p = None
 
 -- what contracts see of a search
 abbrev pub search_of : State → Rules → Held → Searching
-search_of state rules held = record { system = held.system; rules = rules; left = left_of state rules held.system held.path; path = held.path; place = place_of state held.path; chosen = chosen_of state held.system held.path }
+search_of state rules held = record { system = held.system; rules = rules; rest = rest_of state rules held.system held.path; path = held.path; place = place_of state held.path; chosen = chosen_of state held.system held.path }
 
 -- a node that the budget allows lowers it by 1, and is answered; else the search stays, spent
 abbrev pub Pays : ℕ → State → Event → State → Event → ℕ → Type 0
 Pays budget paid_state paid_event state event after = ((budget ≡ 0) × (after ≡ 0) × (state ≡ Here) × (event ≡ Spent)) ⊎ ((budget ≡ after + 1) × (state ≡ paid_state) × (event ≡ paid_event))
 
--- what a verdict on a path of so many columns answers, and where the search is then
+-- what a verdict on a path of this many columns answers, and where the search is then
 abbrev pub Answers : Verdict → ℕ → ℕ → State → Event → ℕ → Type 0
 Answers (verdict.Over r) column budget state event after = (state ≡ Past) × (event ≡ Over r) × (after ≡ budget)
 Answers (verdict.Under r) column budget state event after = (state ≡ Past) × (event ≡ Under r) × (after ≡ budget)

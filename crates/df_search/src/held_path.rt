@@ -1,3 +1,6 @@
+// The one path that a search holds, as decisions of a `Partial` and as a list with no for all columns past it, so that a solution is read off without a copy.
+// A path grows and loses its columns at its end: each step decides or takes back one column and costs its cells.
+// What the rules say of the path is read off the partial assignment; only a residue is looked for row by row, and only from the column on from which some row can have one.
 ghost use Rattle.std.specs.Prelude.{◌≡◌, ℕ, ◌+◌, ◌-◌, ◌*◌, ◌<◌, ◌≤◌, [], ◌∷◌, ◌++◌, length, replicate, Some, None, IsNone, IfOk, IfSome, Bool, true, false};
 ghost use Rattle.df_walk.specs.Systems.{IsSystem, entries, target, widest};
 ghost use Rattle.df_walk.specs.Assignments.{taken, divisor, is_over, is_settled, has_residue, least_over, least_row, least_residue};
@@ -8,7 +11,7 @@ ghost use Rattle.df_search.specs.HeldPaths.{as_entry, TurnsTo};
 use crate::OutOfMemory;
 use crate::divisors_start::divisors_start;
 use df_steps::Steps;
-use df_system::{Partial, System};
+use df_system::{MOST_ENTRIES, Partial, System};
 use df_walk::Rules;
 use std::alloc::Global;
 use std::marker::Model;
@@ -70,7 +73,7 @@ impl<'m> HeldPath<'m> {
     pub(crate) fn length(&self) -> u32
         ensures value { result ≡ length self.now.path }
         ensures within { result ≤ length self.now.system.columns }
-        ensures few { length self.now.system.columns ≤ 16777216 }
+        ensures few { length self.now.system.columns ≤ MOST_ENTRIES }
         ensures system { IsSystem self.now.system }
     {
         self.length

@@ -1,3 +1,6 @@
+// The walk through the tree of paths, one entry at a time, with the place in it as one path and a state: at the path, below it or past it.
+// It goes back late, with the call that asks for the next entry: so the answer's path stays held, as its solution and its place, and a call costs at most three decisions more than its path grows shorter.
+// A call passes one entry: `advance` gives it, and `next` passes them up to a solution or up to a node that the budget doesn't allow.
 ghost use Rattle.std.specs.Prelude.{◌≡◌, ℕ, ◌+◌, ◌-◌, ◌*◌, ◌<◌, ◌≤◌, [], ◌∷◌, ◌++◌, length, Some, None, IfOk, IfErr, IsSome, IsNone, IfSome, Bool, true, false, ◌==◌};
 ghost use Rattle.std.specs.List.{list_any};
 ghost use Rattle.std.specs.List.Sorted.{IsStrictlyIncreasing};
@@ -8,7 +11,7 @@ ghost use Rattle.df_walk.specs.Paths.{path_of, settled_before};
 ghost use Rattle.df_walk.specs.Remains.{turned};
 ghost use Rattle.df_search.specs.HeldPaths.{TurnsTo};
 ghost use Rattle.df_search.specs.Resumptions.{Resumes, Refuses, IsFirstSettled, why_of};
-ghost use Rattle.df_search.specs.Searches.{begun, StandsBefore, solutions_left, Advances, Tells, Turns, calls_of, next_path_of, IsReady, Answers};
+ghost use Rattle.df_search.specs.Searches.{begun, StandsBefore, rest_solutions, Advances, IsAnswer, Turns, calls_of, next_path_of, IsReady, Answers};
 
 use crate::held_path::{HeldPath, Verdict};
 use crate::{Event, OutOfMemory, PathView, ResumeError, Turn, Why};
@@ -81,7 +84,7 @@ fn pay(budget: &mut u64) -> bool
     true
 }
 
-/// What a verdict on a path of so many columns answers, and where the search is then.
+/// What a verdict on a path of this many columns answers, and where the search is then.
 fn answer(verdict: Verdict, length: u32, budget: &mut u64) -> (State, Event)
     ensures { Answers verdict length budget.old result.0 result.1 budget.new }
 {
@@ -159,7 +162,7 @@ impl<'m> Search<'m> {
     ) -> Result<Search<'m>, OutOfMemory>
         ensures value { IfOk result (λ s. s ≡ begun system.now rules [] (walk rules system.now [])) }
         ensures stands { IfOk result (λ s. StandsBefore s []) }
-        ensures whole { IfOk result (λ s. solutions_left s ≡ solutions system.now) }
+        ensures whole { IfOk result (λ s. rest_solutions s ≡ solutions system.now) }
         ensures cost { steps.new ≡ steps.old }
     {
         let held = HeldPath::new(alloc, system)?;
@@ -215,7 +218,7 @@ impl<'m> Search<'m> {
     /// After `Spent` the search may be asked for its `place`, and after `Solution` for what is `chosen`.
     pub fn advance<L: Ledger>(&mut self, budget: &mut u64, steps: &mut Steps<L>) -> Event
         ensures entry { Advances self.old budget.old result self.new budget.new }
-        ensures told { Tells self.old budget.old result self.new budget.new }
+        ensures answer { IsAnswer self.old budget.old result self.new budget.new }
         ensures rises { steps.old ≤ steps.new }
         ensures cost { steps.new + widest self.old.system.columns * length self.new.path ≤ steps.old + widest self.old.system.columns * (length self.old.path + 3) }
     {

@@ -48,7 +48,7 @@ fn push_positive(cells: &mut Vec<Cell>, entries: &[u32]) -> Result<(), AllocErro
 }
 
 impl Columns {
-    /// No column yet, and room for so many columns and cells. More may come.
+    /// No column yet, and room for this many columns and cells. More may come.
     pub fn with_capacity(
         alloc: Global,
         columns: usize,

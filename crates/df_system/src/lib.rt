@@ -18,7 +18,7 @@ pub use partial::Partial;
 pub use path::Path;
 pub use system::{System, SystemError};
 
-/// Want of memory.
+/// Out of memory.
 pub type OutOfMemory = std::alloc::AllocError;
 
 #[cfg(test)]

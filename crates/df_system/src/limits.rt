@@ -1,7 +1,7 @@
-/// A system has at most so many entries, where all are given, and so many positive ones, where its columns are given by their cells.
+/// The most entries of a system: of all, where all are given; of the positive ones, where its columns are given by their cells.
 pub const MOST_ENTRIES: usize = 16_777_216;
 
-/// A system whose columns are given by their cells has at most so many columns.
+/// The most columns of a system whose columns are given by their cells.
 pub const MOST_COLUMNS: usize = 65_536;
 
 /// A system has fewer rows than this.

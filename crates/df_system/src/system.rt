@@ -66,7 +66,7 @@ fn value_in(column: &[Cell], row: u32) -> u32
     0
 }
 
-/// The positive entries of columns of so many rows, which stand one after another.
+/// The positive entries of columns of this many rows, which stand one after another.
 fn dense_columns(alloc: Global, rows: usize, entries: &[u32]) -> Result<Columns, OutOfMemory>
     requires some { 0 < rows }
     requires few_rows { rows < ROW_LIMIT }

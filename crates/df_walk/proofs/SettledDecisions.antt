@@ -54,10 +54,10 @@ later ds after b x n none step h =
     later_more [] = omega (arith, none)
     later_more (e ∷ es) = step e es (get_or es h.column 0) (h.more es)
 
--- the same vector, or one with more, behind one more column
-behind : (ds after : Decisions) (b : Bool) (x : List Bool) (n : ℕ) → yes_vector (suc n) after ≡ b ∷ yes_vector n ds → taken [] after ≡ 0 → ((e : ℕ) (es : List ℕ) (m : ℕ) → taken es ds + m ≤ product es x → taken (e ∷ es) after + m ≤ product (e ∷ es) (b ∷ x)) → (x ≡ yes_vector n ds) ⊎ HasMore ds x n → (b ∷ x ≡ yes_vector (suc n) after) ⊎ HasMore after (b ∷ x) (suc n)
-behind ds after b x n v none step (inl e) = inl (ap (λ t. b ∷ t) e ∙ sym v)
-behind ds after b x n v none step (inr h) = inr (later ds after b x n none step h)
+-- the same vector, or one with more, after one more column
+one_further : (ds after : Decisions) (b : Bool) (x : List Bool) (n : ℕ) → yes_vector (suc n) after ≡ b ∷ yes_vector n ds → taken [] after ≡ 0 → ((e : ℕ) (es : List ℕ) (m : ℕ) → taken es ds + m ≤ product es x → taken (e ∷ es) after + m ≤ product (e ∷ es) (b ∷ x)) → (x ≡ yes_vector n ds) ⊎ HasMore ds x n → (b ∷ x ≡ yes_vector (suc n) after) ⊎ HasMore after (b ∷ x) (suc n)
+one_further ds after b x n v none step (inl e) = inl (ap (λ t. b ∷ t) e ∙ sym v)
+one_further ds after b x n v none step (inr h) = inr (later ds after b x n none step h)
 
 -- a yes at an undecided column
 here : (ds : Decisions) (x : List Bool) (n : ℕ) → keeps ds x ≡ true → HasMore (None ∷ ds) (true ∷ x) (suc n)
@@ -80,13 +80,13 @@ only_or_more zero ds [] l k = inl refl
 only_or_more zero ds (b ∷ x) l k = absurd (omega arith)
 only_or_more (suc n) ds [] l k = absurd (omega arith)
 only_or_more (suc n) [] (true ∷ x) l k = inr (here_past x n)
-only_or_more (suc n) [] (false ∷ x) l k = behind [] [] false x n refl refl (λ e es m h. h) (only_or_more n [] x (omega arith) refl)
+only_or_more (suc n) [] (false ∷ x) l k = one_further [] [] false x n refl refl (λ e es m h. h) (only_or_more n [] x (omega arith) refl)
 only_or_more (suc n) (None ∷ ds) (true ∷ x) l k = inr (here ds x n k)
-only_or_more (suc n) (None ∷ ds) (false ∷ x) l k = behind ds (None ∷ ds) false x n refl refl (λ e es m h. h) (only_or_more n ds x (omega arith) k)
-only_or_more (suc n) (Some true ∷ ds) (true ∷ x) l k = behind ds (Some true ∷ ds) true x n refl refl (λ e es m h. omega arith) (only_or_more n ds x (omega arith) k)
+only_or_more (suc n) (None ∷ ds) (false ∷ x) l k = one_further ds (None ∷ ds) false x n refl refl (λ e es m h. h) (only_or_more n ds x (omega arith) k)
+only_or_more (suc n) (Some true ∷ ds) (true ∷ x) l k = one_further ds (Some true ∷ ds) true x n refl refl (λ e es m h. omega arith) (only_or_more n ds x (omega arith) k)
 only_or_more (suc n) (Some true ∷ ds) (false ∷ x) l k = absurd (false≢true k)
 only_or_more (suc n) (Some false ∷ ds) (true ∷ x) l k = absurd (false≢true k)
-only_or_more (suc n) (Some false ∷ ds) (false ∷ x) l k = behind ds (Some false ∷ ds) false x n refl refl (λ e es m h. h) (only_or_more n ds x (omega arith) k)
+only_or_more (suc n) (Some false ∷ ds) (false ∷ x) l k = one_further ds (Some false ∷ ds) false x n refl refl (λ e es m h. h) (only_or_more n ds x (omega arith) k)
 
 -- at settled decisions no vector with more solves
 contradiction : (s : System) (ds : Decisions) (x : List Bool) → IsSystem s → is_settled s ds ≡ true → (keeps ds x && is_solution s x) ≡ true → HasMore ds x (length s.columns) → ⊥

@@ -7,7 +7,7 @@ use Rattle.df_walk.specs.declared.Entry.{Entry}
 use Rattle.df_walk.specs.declared.Entry.TheVariants.{Branch, Over, Under, Settled, Residue}
 use Rattle.df_walk.specs.Systems.{System}
 use Rattle.df_walk.specs.Walks.{Step, entry_at, below, walk_from, walk}
-use Rattle.df_walk.specs.Remains.{later_walk, walk_on, behind_first, turned}
+use Rattle.df_walk.specs.Remains.{later_walk, walk_on, after_first, turned}
 use Rattle.df_walk.proofs.EntryMeanings.{Says, entry_says, branch_short}
 use Rattle.df_walk.proofs.WalkOrder.{walk_is}
 
@@ -64,21 +64,21 @@ walk_on_branch rules s p c h =
     let here : walk rules s p ≡ (p, Branch c) ∷ (walk rules s (p ++ true ∷ []) ++ walk rules s (p ++ false ∷ [])) = at ∙ ap (λ e. (p, e) ∷ below e (walk_from rules s left (p ++ true ∷ []) ++ walk_from rules s left (p ++ false ∷ []))) h ∙ ap (λ l. (p, Branch c) ∷ (walk rules s (p ++ true ∷ []) ++ l)) (sym no) in
     rw (here, later_walk_yes rules s [] p) (ap (λ l. (p, Branch c) ∷ l) (append_assoc (walk rules s (p ++ true ∷ [])) (walk rules s (p ++ false ∷ [])) (later_walk rules s [] p)))
 
--- the walk on from a path behind the given one, if there is one
+-- the walk on from a path after the given one, if there is one
 abbrev pub walk_on_from : Rules → System → List Bool → Option (List Bool) → List Step
 walk_on_from rules s before None = []
 walk_on_from rules s before (Some q) = walk rules s (before ++ q) ++ later_walk rules s before q
 
-later_walk-behind : (rules : Rules) (s : System) (before : List Bool) (b : Bool) (p : List Bool) (o : Option (List Bool)) → later_walk rules s (before ++ b ∷ []) p ≡ walk_on_from rules s (before ++ b ∷ []) o → later_walk rules s before (b ∷ p) ≡ walk_on_from rules s before (behind_first b o)
-later_walk-behind rules s before true p None h = ap (λ l. l ++ walk rules s (before ++ false ∷ [])) h ∙ sym (append-nil (walk rules s (before ++ false ∷ [])))
-later_walk-behind rules s before false p None h = h
-later_walk-behind rules s before true p (Some q) h = ap (λ l. l ++ walk rules s (before ++ false ∷ [])) h ∙ rw (append_assoc before (true ∷ []) q) (append_assoc (walk rules s (before ++ true ∷ q)) (later_walk rules s (before ++ true ∷ []) q) (walk rules s (before ++ false ∷ [])))
-later_walk-behind rules s before false p (Some q) h = h ∙ rw (append_assoc before (false ∷ []) q)
+later_walk-after : (rules : Rules) (s : System) (before : List Bool) (b : Bool) (p : List Bool) (o : Option (List Bool)) → later_walk rules s (before ++ b ∷ []) p ≡ walk_on_from rules s (before ++ b ∷ []) o → later_walk rules s before (b ∷ p) ≡ walk_on_from rules s before (after_first b o)
+later_walk-after rules s before true p None h = ap (λ l. l ++ walk rules s (before ++ false ∷ [])) h ∙ sym (append-nil (walk rules s (before ++ false ∷ [])))
+later_walk-after rules s before false p None h = h
+later_walk-after rules s before true p (Some q) h = ap (λ l. l ++ walk rules s (before ++ false ∷ [])) h ∙ rw (append_assoc before (true ∷ []) q) (append_assoc (walk rules s (before ++ true ∷ q)) (later_walk rules s (before ++ true ∷ []) q) (walk rules s (before ++ false ∷ [])))
+later_walk-after rules s before false p (Some q) h = h ∙ rw (append_assoc before (false ∷ []) q)
 
 -- past a path the walk goes on at the path that is its last yes turned to no
 pub later_walk-turned : (rules : Rules) (s : System) (before p : List Bool) → later_walk rules s before p ≡ walk_on_from rules s before (turned p)
 later_walk-turned rules s before [] = refl
-later_walk-turned rules s before (b ∷ p) = later_walk-behind rules s before b p (turned p) (later_walk-turned rules s (before ++ b ∷ []) p)
+later_walk-turned rules s before (b ∷ p) = later_walk-after rules s before b p (turned p) (later_walk-turned rules s (before ++ b ∷ []) p)
 
 -- what remains at a path begins with its own entry
 pub walk_on_first : (rules : Rules) (s : System) (p : List Bool) → (more : List Step) × (walk_on rules s p ≡ (p, entry_at rules s p) ∷ more)

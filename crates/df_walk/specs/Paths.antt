@@ -35,7 +35,7 @@ pub record IsNode (rules : Rules) (s : System) (p : List Bool) : Type 0 where
   pub short : length p ≤ length s.columns
   pub node : is_node rules s p ≡ true
 
--- all paths of at most so many columns: a prefix before its extensions, and yes before no
+-- all paths of at most this many columns: a prefix before its extensions, and yes before no
 abbrev pub paths : ℕ → List (List Bool)
 paths zero = [] ∷ []
 paths (suc left) = [] ∷ (map (λ p. true ∷ p) (paths left) ++ map (λ p. false ∷ p) (paths left))

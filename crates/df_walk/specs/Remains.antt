@@ -37,7 +37,7 @@ pub record IsStart (rules : Rules) (s : System) (p : List Bool) : Type 0 where
   pub short : length p ≤ length s.columns
   pub visited : IsVisited rules s p
 
--- a path as the decisions of so many columns
+-- a path as the decisions of this many columns
 abbrev pub padded : ℕ → List Bool → Decisions
 padded columns p = decided p ++ replicate (columns - length p) None
 
@@ -46,12 +46,12 @@ abbrev pub down_from : ℕ → List ℕ
 down_from zero = []
 down_from (suc n) = n ∷ down_from n
 
-abbrev pub behind_first : Bool → Option (List Bool) → Option (List Bool)
-behind_first b (Some q) = Some (b ∷ q)
-behind_first true None = Some (false ∷ [])
-behind_first false None = None
+abbrev pub after_first : Bool → Option (List Bool) → Option (List Bool)
+after_first b (Some q) = Some (b ∷ q)
+after_first true None = Some (false ∷ [])
+after_first false None = None
 
 -- the path with its last yes turned to no, and cut there
 abbrev pub turned : List Bool → Option (List Bool)
 turned [] = None
-turned (b ∷ p) = behind_first b (turned p)
+turned (b ∷ p) = after_first b (turned p)

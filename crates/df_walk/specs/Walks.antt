@@ -44,7 +44,7 @@ below (Under row) more = []
 below (Residue row m) more = []
 below (Cut ws) more = []
 
--- the walk from a path, with so many columns left: below a branch first with yes, then with no
+-- the walk from a path, with this many columns to go: below a branch first with yes, then with no
 abbrev pub walk_from : Rules → System → ℕ → List Bool → List Step
 walk_from rules s zero p = (p, entry_at rules s p) ∷ []
 walk_from rules s (suc left) p = (p, entry_at rules s p) ∷ below (entry_at rules s p) (walk_from rules s left (p ++ true ∷ []) ++ walk_from rules s left (p ++ false ∷ []))

@@ -56,7 +56,7 @@ pub fn solutions_are_distinct()
     ensures { SolutionsAreDistinct }
 {}
 
-/// The walk from the empty path visits every solution and every node once, in order, by either rules.
+/// The walk from the empty path visits every solution and every node once, in order, by both sets of rules.
 pub fn walks_are_whole()
     ensures { WalksAreWhole }
 {}

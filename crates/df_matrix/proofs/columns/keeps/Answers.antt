@@ -8,7 +8,7 @@ use Rattle.df_matrix.proofs.columns.keeps.Goals as goal
 
 pub fit-requires : goal.fit-requires
 fit-requires c =
-    let s = c.args.classes.now in
+    let s = c.args.orbits.now in
     let are = c.pair_cells-cells.ensures.cells in
     let rows = c.rows_are_pairs_and_needed.ensures s [] in
     subst (All (λ cell. cell.row < length c.args.targets.now)) (sym c.as_slice.ensures.value)
@@ -16,7 +16,7 @@ fit-requires c =
 
 pub returns : goal.returns
 returns c =
-    let s = c.args.classes.now in
+    let s = c.args.orbits.now in
     let allowed = sym (get_or-map (has_alike s s.forbidden) (orbits_of s) c.args.orbit [] false c.requires.orbit) ∙ sym (ap (λ l. get_or l c.args.orbit false) c.requires.forbidden) ∙ c.if-forbidden-orbit.false in
     c.fit.ensures
     ∙ ap₂ (λ t l. list_all (λ (cell : Cell). nat_le cell.value (get_or t cell.row 0)) l) c.requires.targets (c.as_slice.ensures.value ∙ c.pair_cells-cells.ensures.entries)

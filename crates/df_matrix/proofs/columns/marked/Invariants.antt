@@ -3,4 +3,4 @@ use Rattle.df_kramer_mesner.specs.OrbitSystems.{has_alike, orbits_of}
 use Rattle.df_matrix.proofs.columns.marked.Given as goal
 
 abbrev pub invariant-loop-block : goal.invariant-loop-block
-invariant-loop-block l = l.marks.items ≡ map (has_alike l.classes (take l.block-index l.blocks)) (orbits_of l.classes)
+invariant-loop-block l = l.marks.items ≡ map (has_alike l.orbits (take l.block-index l.blocks)) (orbits_of l.orbits)

@@ -11,6 +11,6 @@ ok_then (Err e) h f = h
 
 pub returns : goal.returns
 returns c =
-    let s = c.args.classes.now in
+    let s = c.args.orbits.now in
     let marks = c.deref.ensures.value ∙ c.in_ok-marks.ensures ∙ ap (λ l. map (has_alike s l) (orbits_of s)) (c.required_of.ensures.blocks ∙ ap (λ (t : Stated). t.required) c.problem.ensures) in
     ok_then c.numbers_of.result c.numbers_of.ensures (λ needed h. h ∙ places_marked (has_alike s s.required) (orbits_of s) c.deref.result.now marks)

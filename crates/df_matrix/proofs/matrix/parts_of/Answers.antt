@@ -3,29 +3,29 @@ use Rattle.df_lang.specs.Problems.{Stated, IsStated}
 use Rattle.df_kramer_mesner.specs.OrbitSystems.{has_alike, is_kept, orbits_of, columns_of, targets_of}
 use Rattle.df_kramer_mesner.specs.Laws.{AreSparse}
 use Rattle.df_matrix.specs.Limits.{or_else, column_limit_of, entry_limit_of}
-use Rattle.df_matrix.proofs.ClassParts.{count_within}
+use Rattle.df_matrix.proofs.OrbitParts.{count_within}
 use Rattle.df_matrix.proofs.PlaceLists.{places_long}
 use Rattle.df_matrix.proofs.matrix.parts_of.Goals as goal
 
 pub targets_of-requires : goal.targets_of-requires
 targets_of-requires c =
-    let s = c.args.classes.now in
+    let s = c.args.orbits.now in
     c.len.ensures ∙ c.in-Ok.needed.ok.0 ∙ ap length c.in-Ok.ensures ∙ places_long (has_alike s s.required) (orbits_of s)
 
 pub judge-requires-clause-rows : goal.judge-requires-clause-rows
 judge-requires-clause-rows c =
-    let s = c.args.classes.now in
+    let s = c.args.orbits.now in
     let sparse : AreSparse s = c.columns_are_sparse.ensures s (subst IsStated c.problem.ensures c.version_of-version.ensures.stated) in
     omega (arith, c.len-2.ensures, c.in-Ok-targets.targets.ok.0, ap length c.in-Ok-targets.ensures, sparse.rows)
 
 pub judge-requires-clause-columns : goal.judge-requires-clause-columns
 judge-requires-clause-columns c =
-    let s = c.args.classes.now in
+    let s = c.args.orbits.now in
     omega (arith, c.len-3.ensures, c.in-Ok-kept_numbers.kept.ok.0, ap length c.in-Ok-kept_numbers.ensures, places_long (is_kept s) (orbits_of s), count_within (is_kept s) (orbits_of s), c.orbit_count.ensures.count, c.orbit_count.ensures.few)
 
 pub returns-in-Err-clause-refused : goal.returns-in-Err-clause-refused
 returns-in-Err-clause-refused c =
-    let s = c.args.classes.now in
+    let s = c.args.orbits.now in
     let e = c.in-Err.error in
     let columns = c.len-3.ensures ∙ c.in-Ok-kept_numbers.kept.ok.0 ∙ ap length c.in-Ok-kept_numbers.ensures ∙ places_long (is_kept s) (orbits_of s) in
     let rows = c.len-2.ensures ∙ c.in-Ok-targets.targets.ok.0 ∙ ap length c.in-Ok-targets.ensures in
@@ -36,7 +36,7 @@ returns-in-Err-clause-refused c =
 
 pub returns-in-Ok-system_of-clause-within : goal.returns-in-Ok-system_of-clause-within
 returns-in-Ok-system_of-clause-within c = λ _.
-    let s = c.args.classes.now in
+    let s = c.args.orbits.now in
     let columns = c.len-3.ensures ∙ c.in-Ok-kept_numbers.kept.ok.0 ∙ ap length c.in-Ok-kept_numbers.ensures ∙ places_long (is_kept s) (orbits_of s) in
     let rows = c.len-2.ensures ∙ c.in-Ok-targets.targets.ok.0 ∙ ap length c.in-Ok-targets.ensures in
     let version = c.version_of-version.ensures.version ∙ ap (λ (t : Stated). t.version) c.problem.ensures in

@@ -6,5 +6,5 @@ use Rattle.df_matrix.proofs.rows.add_rows.Given as goal
 abbrev pub invariant-loop-q : goal.invariant-loop-q
 invariant-loop-q l = record {
   long : array_vec_len l.rows ≡ array_vec_len l.initial.rows + l.q-index;
-  rows : (done : List (List ℕ)) → AreRowsOf l.classes done l.initial.rows.items → AreRowsOf l.classes (done ++ map (λ q. l.p ∷ q ∷ []) (take l.q-index l.later)) l.rows.items;
+  rows : (done : List (List ℕ)) → AreRowsOf l.orbits done l.initial.rows.items → AreRowsOf l.orbits (done ++ map (λ q. l.p ∷ q ∷ []) (take l.q-index l.later)) l.rows.items;
 }

@@ -12,7 +12,7 @@ add_rows-requires-clause-block c =
     let b = c.args.block.now in
     let within : c.loop-i.i < length b = omega (arith, c.loop-i-test.true, c.len-i-end.ensures.value, ap length c.points-points.ensures.list) in
     let e = from_point b c.deref.result.now c.as_slice.result.now c.loop-i.i c.index-deref-i.result within (c.deref.ensures.0 ∙ c.points-points.ensures.list) c.index-deref-i.is (c.as_slice.ensures.value ∙ c.points-points.ensures.list) in
-    subst (IsBlock (point_count c.args.classes.now)) e (block_drop 0 (point_count c.args.classes.now) c.loop-i.i b c.requires.block)
+    subst (IsBlock (point_count c.args.orbits.now)) e (block_drop 0 (point_count c.args.orbits.now) c.loop-i.i b c.requires.block)
 
 pub add_rows-requires-clause-room : goal.add_rows-requires-clause-room
 add_rows-requires-clause-room c =
@@ -26,7 +26,7 @@ add_rows-requires-clause-room c =
     omega (arith, more, f, g, pairs_few (c.loop-i.i + 1) b c.requires.size, c.loop-i.invariant.long)
 
 pub loop-i-init : goal.loop-i-init
-loop-i-init c = subst (AreRowsOf c.args.classes.now []) (sym c.new-rows.ensures) (rows_none c.args.classes.now)
+loop-i-init c = subst (AreRowsOf c.args.orbits.now []) (sym c.new-rows.ensures) (rows_none c.args.orbits.now)
 
 pub loop-i-preserved : goal.loop-i-preserved
 loop-i-preserved c =
@@ -34,10 +34,10 @@ loop-i-preserved c =
     let within : c.loop-i.i < length b = omega (arith, c.loop-i-test.true, c.len-i-end.ensures.value, ap length c.points-points.ensures.list) in
     let later = take (length c.as_slice.result.now - (c.loop-i.i + 1)) (drop (c.loop-i.i + 1) c.as_slice.result.now) in
     let e = from_point b c.deref.result.now c.as_slice.result.now c.loop-i.i c.index-deref-i.result within (c.deref.ensures.0 ∙ c.points-points.ensures.list) c.index-deref-i.is (c.as_slice.ensures.value ∙ c.points-points.ensures.list) in
-    subst (λ l. AreRowsOf c.args.classes.now l c.add_rows.new.rows.items) (sym (pairs_more c.loop-i.i c.index-deref-i.result b later e)) (c.add_rows.ensures (pairs_before c.loop-i.i b) c.loop-i.invariant)
+    subst (λ l. AreRowsOf c.args.orbits.now l c.add_rows.new.rows.items) (sym (pairs_more c.loop-i.i c.index-deref-i.result b later e)) (c.add_rows.ensures (pairs_before c.loop-i.i b) c.loop-i.invariant)
 
 pub returns : goal.returns
 returns c =
     let b = c.args.block.now in
     let all : c.loop-i.i ≡ length b = omega (arith, c.loop-i-test.false, c.loop-i.auto.i-end, c.len-i-end.ensures.value, ap length c.points-points.ensures.list) in
-    subst (λ l. AreRowsOf c.args.classes.now l c.loop-i.rows.items) (ap (λ k. pairs_before k b) all ∙ pairs_all b) c.loop-i.invariant
+    subst (λ l. AreRowsOf c.args.orbits.now l c.loop-i.rows.items) (ap (λ k. pairs_before k b) all ∙ pairs_all b) c.loop-i.invariant

@@ -16,8 +16,8 @@ whole c = refill_whole (length c.listed_rows-rows.result.items) c.listed_rows-ro
 
 pub returns-clause-rows : goal.returns-clause-rows
 returns-clause-rows c =
-    subst (AreRowsOf c.args.classes.now (choose c.args.block.now 2)) (sym (whole c))
-    (rows_ordered c.args.classes.now (choose c.args.block.now 2) c.as_mut_slice.result.now c.sort_unstable.new.self (subst (AreRowsOf c.args.classes.now (choose c.args.block.now 2)) (sym c.as_mut_slice.ensures.value) c.listed_rows-rows.ensures) c.sort_unstable.ensures.permutation)
+    subst (AreRowsOf c.args.orbits.now (choose c.args.block.now 2)) (sym (whole c))
+    (rows_ordered c.args.orbits.now (choose c.args.block.now 2) c.as_mut_slice.result.now c.sort_unstable.new.self (subst (AreRowsOf c.args.orbits.now (choose c.args.block.now 2)) (sym c.as_mut_slice.ensures.value) c.listed_rows-rows.ensures) c.sort_unstable.ensures.permutation)
 
 pub returns-clause-sorted : goal.returns-clause-sorted
 returns-clause-sorted c = subst IsNonDecreasing (sym (whole c)) (IsNonDecreasingBy-from_sort (λ x. x) c.sort_unstable.new.self c.sort_unstable.ensures.sorted)

@@ -19,8 +19,8 @@ invariant_of-self-clause-short_names c =
     short_grown old new (c.args.name, c.args.subgroup) (grown c.insert.result old new c.args.name c.args.subgroup c.insert.ensures.entries c.insert.ensures.err c.requires.absent) c.args.self.now.short_names
     c.requires.short
 
-pub returns-in-Ok : goal.returns-in-Ok
-returns-in-Ok c =
+pub returns : goal.returns
+returns c =
     let old = c.args.self.now.names.entries in
-    let more = c.in-Ok.ensures.entries ∙ insert_new old c.args.name c.args.subgroup c.requires.absent in
+    let more = c.in_ok-insert.ensures.entries ∙ insert_new old c.args.name c.args.subgroup c.requires.absent in
     ap (λ (l : List Named). Ok (record (above c.args.self.now) { names = l })) (sym (ap (map named) more ∙ named_push old (c.args.name, c.args.subgroup)))

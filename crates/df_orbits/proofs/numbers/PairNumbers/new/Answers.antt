@@ -1,6 +1,5 @@
-use Rattle.std.proofs.Common.{◌≡◌, ◌<◌, ◌+◌, ◌*◌, ◌∙◌, ◌∷◌, ◌++◌, [], ℕ, List, Some, cond, ap, ap₂, sym, subst, arith, length, get_or, take, drop, slice_get}
+use Rattle.std.proofs.Common.{◌≡◌, ◌<◌, ◌+◌, ◌*◌, ◌∙◌, ◌∷◌, ◌++◌, [], ℕ, List, cond, ap, ap₂, sym, subst, arith, length, get_or, take, drop}
 use Rattle.std.proofs.lemmas.List.{take_all, take-append-le}
-use Rattle.std.proofs.lemmas.Option.{get_or_from_slice_get}
 use Rattle.df_subsets.specs.Blocks.{IsBlock}
 use Rattle.df_maps.specs.FullMaps.{MapGroup, point_count}
 use Rattle.df_maps.specs.Laws.{AreGroup}
@@ -15,8 +14,8 @@ back : (items new : List ℕ) (n : ℕ) → length items ≡ n → length new �
 back items new n long same = take-append-le n new (drop (length new) items) (omega (arith, long, same)) ∙ take_all n new (omega (arith, long, same))
 
 -- the first member of a class, and that there is such a class
-first_of : (M : MapGroup) (pairs : List (List ℕ × ℕ)) (i : ℕ) (b : List ℕ) → pairs ≡ pair_classes M → slice_get (first_members pairs) i ≡ Some b → get_or (firsts M) i [] ≡ b
-first_of M pairs i b is at = get_or_from_slice_get (firsts M) i b [] (subst (λ l. slice_get (first_members l) i ≡ Some b) is at)
+first_of : (M : MapGroup) (pairs : List (List ℕ × ℕ)) (i : ℕ) (b : List ℕ) → pairs ≡ pair_classes M → b ≡ get_or (first_members pairs) i [] → get_or (firsts M) i [] ≡ b
+first_of M pairs i b is at = ap (λ l. get_or (first_members l) i []) (sym is) ∙ sym at
 
 counted : (M : MapGroup) → AreGroup M → (pairs : List (List ℕ × ℕ)) (i : ℕ) → pairs ≡ pair_classes M → i < length pairs → i < length (firsts M)
 counted M A pairs i is h = omega (arith, h, ap length is, firsts_long M A)
@@ -25,12 +24,12 @@ counted M A pairs i is h = omega (arith, h, ap length is, firsts_long M A)
 abbrev Writes : MapGroup → List ℕ → List ℕ → List ℕ → ℕ → Type 0
 Writes M b old new i = (p q : ℕ) → p < q → q < point_count M → get_or new (p * point_count M + q) 0 ≡ cond (are_alike M b (p ∷ q ∷ [])) i (get_or old (p * point_count M + q) 0)
 
-moved : (N M : MapGroup) (b d old items new : List ℕ) (i : ℕ) → N ≡ M → b ≡ d → old ≡ items → Writes N b old new i → Writes M d items new i
-moved N M b d old items new i e f g h = subst (λ N. Writes N d items new i) e (subst (λ b. Writes N b items new i) f (subst (λ l. Writes N b l new i) g h))
+moved : (M : MapGroup) (b d old items new : List ℕ) (i : ℕ) → b ≡ d → old ≡ items → Writes M b old new i → Writes M d items new i
+moved M b d old items new i f g h = subst (λ b. Writes M b items new i) f (subst (λ l. Writes M b l new i) g h)
 
 pub overflow_cast-i : goal.overflow_cast-i
 overflow_cast-i c =
-    let M = c.args.maps.now in
+    let M = c.args.images.now in
     let A = c.points-points.ensures.maps in
     let small = c.points-points.ensures.small in
     let few = few_pairs (point_count M) (omega (arith, c.points-points.ensures.points, small)) in
@@ -38,15 +37,15 @@ overflow_cast-i c =
 
 pub number_class-requires-clause-pair : goal.number_class-requires-clause-pair
 number_class-requires-clause-pair c =
-    let M = c.args.maps.now in
+    let M = c.args.images.now in
     let A = c.points-points.ensures.maps in
     let i = c.loop-i.i in
     let inside = counted M A c.args.pairs.now i c.requires.classes (omega (arith, c.loop-i-test.true, c.len-i-end.ensures)) in
-    subst (λ N. IsBlock (point_count N) c.rep.result) (sym c.in_ok-images.ensures) (subst (IsBlock (point_count M)) (first_of M c.args.pairs.now i c.rep.result c.requires.classes c.rep.ensures) (first_is_pair M A i inside).0)
+    subst (IsBlock (point_count M)) (first_of M c.args.pairs.now i c.rep.result c.requires.classes c.rep.ensures) (first_is_pair M A i inside).0
 
 pub number_class-requires-clause-two : goal.number_class-requires-clause-two
 number_class-requires-clause-two c =
-    let M = c.args.maps.now in
+    let M = c.args.images.now in
     let A = c.points-points.ensures.maps in
     let i = c.loop-i.i in
     let inside = counted M A c.args.pairs.now i c.requires.classes (omega (arith, c.loop-i-test.true, c.len-i-end.ensures)) in
@@ -54,7 +53,7 @@ number_class-requires-clause-two c =
 
 pub loop-i-preserved : goal.loop-i-preserved
 loop-i-preserved c =
-    let M = c.args.maps.now in
+    let M = c.args.images.now in
     let A = c.points-points.ensures.maps in
     let i = c.loop-i.i in
     let items = c.loop-i.numbers.items in
@@ -62,7 +61,7 @@ loop-i-preserved c =
     let inside = counted M A c.args.pairs.now i c.requires.classes (omega (arith, c.loop-i-test.true, c.len-i-end.ensures)) in
     let first = first_of M c.args.pairs.now i c.rep.result c.requires.classes c.rep.ensures in
     let same = c.number_class.ensures.long ∙ ap length c.deref_mut.ensures.value in
-    let put = moved c.in_ok-images.images M c.rep.result (get_or (firsts M) i []) c.deref_mut.result.now items new i c.in_ok-images.ensures (sym first) c.deref_mut.ensures.value c.number_class.ensures.written in
+    let put = moved M c.rep.result (get_or (firsts M) i []) c.deref_mut.result.now items new i (sym first) c.deref_mut.ensures.value c.number_class.ensures.written in
     let is = back items new c.loop-i.numbers.len (omega (arith, c.loop-i.numbers.ok.0)) same in
     record {
       long = ap length is ∙ same ∙ c.loop-i.invariant.long;
@@ -71,14 +70,14 @@ loop-i-preserved c =
 
 pub invariant_of-result : goal.invariant_of-result
 invariant_of-result c =
-    let M = c.args.maps.now in
+    let M = c.args.images.now in
     let A = c.points-points.ensures.maps in
     let v = c.points-points.result in
     let width : v ≡ point_count M = c.points-points.ensures.points in
     let items = c.loop-i.numbers.items in
     let end : c.loop-i.i ≡ length (firsts M) = omega (arith, c.loop-i-test.false, c.len-i-end.ensures, ap length c.requires.classes, firsts_long M A) in
     let all = subst (AreWritten M items) end c.loop-i.invariant.written in
-    subst (λ N. AreNumbered N v items) (sym c.copied.ensures) record {
+    subst (λ N. AreNumbered N v items) (sym c.maps.ensures) record {
       points_are = width;
       long = c.loop-i.invariant.long ∙ sym (ap₂ (λ a b. a * b) width width);
       numbered = λ p q l h. subst (λ w. IsPairNumber M (p ∷ q ∷ []) (get_or items (p * w + q) 0)) (sym width) (numbered M A p q l (omega (arith, h, width)) items all);

@@ -5,6 +5,6 @@ use Rattle.df_orbits.proofs.numbers.PairNumbers.new.Given as goal
 
 abbrev pub invariant-loop-i : goal.invariant-loop-i
 invariant-loop-i l = record {
-  long : length l.numbers.items ≡ point_count l.maps * point_count l.maps;
-  written : AreWritten l.maps l.numbers.items l.i;
+  long : length l.numbers.items ≡ point_count l.images * point_count l.images;
+  written : AreWritten l.images l.numbers.items l.i;
 }

@@ -5,9 +5,9 @@ use Rattle.df_subsets.specs.Blocks.{before}
 use Rattle.df_subsets.proofs.BlockLaws.{block_is_set}
 use Rattle.df_subsets.proofs.BlockOrders.{before_is}
 use Rattle.df_maps.specs.FullMaps.{point_count}
-use Rattle.df_orbits.specs.OrbitClasses.{first_members}
+use Rattle.df_orbits.specs.OrbitClasses.{first_members, earliest_alike}
 use Rattle.df_orbits.proofs.OrbitLists.{shown, member_at}
-use Rattle.df_orbits.proofs.ClassNumbers.{search_ends, listed_sorted, half_below, half_above}
+use Rattle.df_orbits.proofs.ClassNumbers.{search_ends, listed_sorted, half_below, half_above, place_is}
 use Rattle.df_orbits.proofs.orbits.Orbits.number_of.Goals as goal
 
 pub loop-low-preserved-then-lt : goal.loop-low-preserved-then-lt
@@ -63,4 +63,4 @@ returns c =
     (omega (arith, long, c.loop-low.invariant.order, c.loop-low.invariant.end))
     (λ i h. ap (before (get_or (first_members now) i [])) (sym least) ∙ c.loop-low.invariant.below i h)
     (λ i h k. ap (before (get_or (first_members now) i [])) (sym least) ∙ c.loop-low.invariant.above i (omega (arith, h, stop)) (omega (arith, k, long))) in
-    record { within = omega (arith, ends.0, long); earliest = ends.1; class = ends.2 }
+    record { number = place_is (first_members now) c.loop-low.low (earliest_alike M c.args.block.now) (listed_sorted M c.least_image-least.ensures.maps c.requires.making.0 now c.requires.making.1) ends.1; within = omega (arith, ends.0, long); earliest = ends.1; class = ends.2 }

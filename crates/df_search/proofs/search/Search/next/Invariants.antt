@@ -7,8 +7,8 @@ abbrev pub invariant-loop : goal.invariant-loop
 invariant-loop g l = record {
   passes : Passes l.initial.self l.initial.budget l.self l.budget [];
   rises : l.initial.steps ≤ l.steps;
-  cost : l.steps + widest l.initial.self.system.columns * length l.self.path ≤ l.initial.steps + widest l.initial.self.system.columns * (3 * (length l.initial.self.left - length l.self.left) + length l.initial.self.path);
+  cost : l.steps + widest l.initial.self.system.columns * length l.self.path ≤ l.initial.steps + widest l.initial.self.system.columns * (3 * (length l.initial.self.rest - length l.self.rest) + length l.initial.self.path);
 }
 
 abbrev pub decreases-loop : goal.decreases-loop
-decreases-loop g l = length l.self.left
+decreases-loop g l = length l.self.rest

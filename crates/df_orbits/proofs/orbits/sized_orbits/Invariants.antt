@@ -1,9 +1,0 @@
-use Rattle.std.proofs.Common.{◌≡◌, ℕ, List, map, take}
-use Rattle.std.specs.List.{flat_map}
-use Rattle.df_subsets.specs.Subsets.{subsets}
-use Rattle.df_maps.specs.FullMaps.{point_count}
-use Rattle.df_orbits.specs.OrbitClasses.{classes_of}
-use Rattle.df_orbits.proofs.orbits.sized_orbits.Given as goal
-
-abbrev pub invariant-loop-size : goal.invariant-loop-size
-invariant-loop-size l = map {B = List ℕ × ℕ} (λ f. (f.block, f.size)) l.found.items ≡ flat_map (λ k. classes_of l.maps (subsets (point_count l.maps) k)) (take l.size-index l.sizes)

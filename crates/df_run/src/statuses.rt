@@ -1,0 +1,35 @@
+// How a run ends.
+ghost use Rattle.std.specs.Prelude.{◌≡◌};
+ghost use Rattle.df_run.specs.Statuses.{code_of};
+
+/// How a run of the program ends.
+#[derive(Clone, Copy, Debug, PartialEq, Eq)]
+pub enum Status {
+    /// The command is done: accepted.
+    Done,
+    /// `verify`: a row of the difference table differs from what is stated.
+    Refused,
+    /// The words are not a command. Nothing was read.
+    Usage,
+    /// The input can't be read as the command wants it, or the problem that it states is above a limit.
+    BadInput,
+    /// A read failed. Nothing was written.
+    ReadFault,
+    /// A write failed. A proper prefix of the text was written.
+    WriteFault,
+    /// Out of memory. Nothing was written.
+    OutOfMemory,
+    /// The search spent its budget. No command of today ends so.
+    Spent,
+    /// More bytes came than the limit on input allows. Nothing was written.
+    TooLong,
+}
+
+impl Status {
+    /// The exit status of the program: 0 to 8, in the order of the variants.
+    pub fn code(self) -> u8
+        ensures { result ≡ code_of self }
+    {
+        self as u8
+    }
+}

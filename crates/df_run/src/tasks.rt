@@ -1,0 +1,44 @@
+// A command by what it reads.
+ghost use Rattle.std.specs.Prelude.{◌≡◌};
+ghost use Rattle.df_run.specs.Tasks.{task_of};
+
+use df_words::Command;
+
+/// The most bytes that a source may have: 1,048,576.
+pub const SOURCE_BYTES: u64 = 1_048_576;
+
+/// A command by what it reads.
+#[derive(Clone, Copy, Debug, PartialEq, Eq)]
+pub enum Task {
+    /// It reads a source, of at most `SOURCE_BYTES`.
+    Source(SourceTask),
+}
+
+/// What is asked of a source.
+#[derive(Clone, Copy, Debug, PartialEq, Eq)]
+pub enum SourceTask {
+    /// Its canonical lines.
+    Show,
+    /// Its difference table.
+    Table,
+    /// Whether its family is what it states, and the development.
+    Verify,
+    /// Its orbits of pairs and of blocks.
+    Orbits,
+    /// Its orbit matrix.
+    Matrix,
+}
+
+impl From<Command> for Task {
+    ghost from_gives = { λ command task. task ≡ task_of command };
+
+    fn from(command: Command) -> Self {
+        match command {
+            Command::Show => Task::Source(SourceTask::Show),
+            Command::Table => Task::Source(SourceTask::Table),
+            Command::Verify => Task::Source(SourceTask::Verify),
+            Command::Orbits => Task::Source(SourceTask::Orbits),
+            Command::Matrix => Task::Source(SourceTask::Matrix),
+        }
+    }
+}

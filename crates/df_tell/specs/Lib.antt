@@ -1,0 +1,9 @@
+pub mod Canonical
+pub mod Counts
+pub mod Limits
+pub mod Matrix
+pub mod Orbits
+pub mod Refusal
+pub mod Table
+pub mod Usage
+pub mod Verdict

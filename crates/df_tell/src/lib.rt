@@ -1,0 +1,23 @@
+//! The texts that the program prints, each written to a sink.
+//! A text has a module with its writer, and a module of specs/ of the same name with the text as a list of bytes.
+//! Each writer's one clause is `Writes`: all of the text was written, or a proper prefix of it, and the sink failed.
+#![tactic(auto)]
+
+mod canonical;
+mod counts;
+mod limits;
+mod matrix;
+mod orbits;
+mod refusal;
+mod table;
+mod usage;
+mod verdict;
+
+pub use canonical::write_canonical;
+pub use limits::{Limit, write_limit};
+pub use matrix::write_matrix;
+pub use orbits::write_orbits;
+pub use refusal::write_refusal;
+pub use table::write_table;
+pub use usage::write_usage;
+pub use verdict::write_verdict;
