@@ -20,8 +20,12 @@ pub use top::run;
 pub use words::{Command, UsageFault, read_words};
 
 #[cfg(test)]
+mod design_tests;
+#[cfg(test)]
 mod matrix_tests;
 #[cfg(test)]
 mod orbit_tests;
+#[cfg(test)]
+mod plain_designs;
 #[cfg(test)]
 mod tests;
