@@ -1,4 +1,4 @@
--- The parts of an element's token.
+-- The pieces of an element's token.
 use Rattle.std.proofs.Common.{◌≡◌, ℕ, ◌+◌, ◌*◌, ◌<◌, ◌≤◌, true, false, ltb, Bool, List, [], ◌∷◌, length, get_or, drop, drop_of_length-le, take, All, zero, suc, Bor, is_some, option_copied, Option, Some, None, Ok, Err, ok_or, refl, sym, ap, ◌∙◌, arith, tests, mul-le-mul, mul_assoc, add-mul, option_map, nat_lt, if◌then◌else◌}
 use Rattle.std.specs.List.{slice_split, position, position_or_len}
 use Rattle.std.proofs.lemmas.List.{drop_more}
@@ -11,7 +11,7 @@ use Rattle.df_lang.specs.Rules.{◌>>?◌, value_of, number_of}
 use Rattle.df_lang.specs.Values.{residues_of, element_of, is_comma}
 use Rattle.df_lang.specs.Pieces.{parts_left}
 
--- the number of the element, where place is that of the parts before
+-- the number of the element, where place is that of the pieces before
 unfoldable pub element_from : List ℕ → List (List ℕ) → ℕ → Option ℕ
 element_from [] [] place = Some place
 element_from [] (part ∷ parts) place = None
@@ -70,7 +70,7 @@ value_none part e is = none_of (value_of part) is where
   none_of None is = refl
   none_of (Some x) is = absurd cc
 
--- one more part, of a factor
+-- one more piece, of a factor
 pub element_more : (fs : List ℕ) (i : ℕ) (part : List ℕ) (parts all : List (List ℕ)) (place r : ℕ) → i < length fs → all ≡ part ∷ parts → Ok r ≡ number_of part → r < get_or fs i 0
     → element_from (drop (i + 1) fs) parts (place * get_or fs i 0 + r) ≡ element_from (drop i fs) all place
 unfolding element_from
@@ -140,7 +140,7 @@ unfolding element_from
 past [] place h = absurd (omega arith)
 past (part ∷ parts) place h = refl
 
--- parts past the last factor
+-- pieces past the last factor
 pub element_past : (fs : List ℕ) (i place : ℕ) (rest : Option (Bor (List ℕ))) → length fs ≤ i → is_some rest ≡ true → element_from (drop i fs) (parts_left (option_copied rest)) place ≡ None
 element_past fs i place None h e = absurd cc
 element_past fs i place (Some text) h e = rw (drop_of_length-le fs h) (past (slice_split is_comma text.now) place (omega (arith, length-slice_split is_comma text.now)))

@@ -35,6 +35,3 @@ refusal_none fs is =
     let c : ltb (position_or_len is_outside fs) (length fs) ≡ false = grind (arith, tests, no_outside fs is.factors) in
     let d : leb (order_of fs) 128 ≡ true = grind (arith, tests, is.small) in
     rw (a, b, c, d) refl
-
-pub shape_of : (fs : List ℕ) → 0 < length fs → length fs ≤ 7 → All IsFactor fs → order_of fs ≤ 128 → IsShape fs
-shape_of fs some few each small = record { some = some; few = few; factors = each; small = small }

@@ -42,7 +42,7 @@ apart_more e m ms apart new low = record {
     by q false true a b h = subst (λ n. n < e) (sym (eqb-true q m b)) low
     by q false false a b h = absurd cc
 
--- one token more, of a number n that is no unit, one that is kept already, or a new one
+-- one token more, of a number n that is no unit, one that is there already, or a new one
 module _ (e x n : ℕ) (ms token : List ℕ) (tokens : List (List ℕ)) (same : x ≡ e) (some : 0 < e) (is : Ok n ≡ number_of token) where
   unit_of : (b : Bool) → is_unit e (n % x) ≡ b → is_unit e n ≡ b
   unit_of b unit = sym (unit_reduced e n some) ∙ ap (λ y. is_unit e (n % y)) (sym same) ∙ unit

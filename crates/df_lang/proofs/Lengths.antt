@@ -7,20 +7,20 @@ use Rattle.std.proofs.lemmas.List.{length-map}
 use Rattle.df_io.specs.Joined.{Each}
 use Rattle.df_group.specs.Elements.{order_of, residues, IsFactor, IsShape}
 use Rattle.df_lang.specs.Canonical.{element_text, point_text, block_text, fixed_text}
-use Rattle.df_lang.specs.Separated.{behind}
-use Rattle.df_lang.proofs.Behind.{join_behind}
+use Rattle.df_lang.specs.Separated.{each_after}
+use Rattle.df_lang.proofs.EachAfter.{join_after}
 
--- at most so many bytes
+-- at most this number of bytes
 abbrev pub IsShort : ℕ → List ℕ → Type 0
 IsShort n text = length text ≤ n
 
-pub behind_short : (c n : ℕ) (texts : List (List ℕ)) → Each (IsShort n) texts → length (behind c texts) ≤ length texts * (n + 1)
-behind_short c n [] each = omega arith
-behind_short c n (t ∷ ts) each = omega (arith, behind_short c n ts each.1, length-append t (behind c ts), each.0)
+pub after_short : (c n : ℕ) (texts : List (List ℕ)) → Each (IsShort n) texts → length (each_after c texts) ≤ length texts * (n + 1)
+after_short c n [] each = omega arith
+after_short c n (t ∷ ts) each = omega (arith, after_short c n ts each.1, length-append t (each_after c ts), each.0)
 
 pub join_short : (c n : ℕ) (texts : List (List ℕ)) → Each (IsShort n) texts → length (join_with_byte c texts) ≤ length texts * (n + 1)
 join_short c n [] each = omega arith
-join_short c n (t ∷ ts) each = omega (arith, ap length (join_behind c t ts), length-append t (behind c ts), behind_short c n ts each.1, each.0)
+join_short c n (t ∷ ts) each = omega (arith, ap length (join_after c t ts), length-append t (each_after c ts), after_short c n ts each.1, each.0)
 
 -- numbers below 1,000
 pub number_short : (n : ℕ) → n < 1000 → IsShort 3 (decimal n)

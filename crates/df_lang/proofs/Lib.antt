@@ -1,5 +1,5 @@
-pub mod Behind
 pub mod CanonicalShort
+pub mod EachAfter
 pub mod EachMember
 pub mod ElementParts
 pub mod Factors
@@ -21,8 +21,8 @@ pub mod SectionsBack
 pub mod SectionsLeft
 pub mod SetsBelow
 pub mod SizesRise
-pub mod SourcesKept
 pub mod SourceBack
+pub mod SourcesKept
 pub mod StatementsKept
 pub mod StepsBack
 pub mod ValuesKept

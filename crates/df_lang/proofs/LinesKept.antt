@@ -10,13 +10,13 @@ use Rattle.df_lang.specs.declared.problem.TheConstants.{NAMES_LIMIT}
 use Rattle.df_lang.specs.declared.parts.Which.{Which}
 use Rattle.df_lang.specs.declared.parts.Which.TheVariants as which
 use Rattle.df_lang.specs.declared.parts.Kind.TheVariants as kind
-use Rattle.df_lang.specs.declared.parts.Word.{Word}
-use Rattle.df_lang.specs.declared.parts.Word.TheVariants as word
+use Rattle.df_lang.specs.declared.parts.Keyword.{Keyword}
+use Rattle.df_lang.specs.declared.parts.Keyword.TheVariants as keyword
 use Rattle.df_lang.specs.Problems.{Named, Stated, IsStated, IsWord, IsTarget}
 use Rattle.df_lang.specs.Rules.{◌>>=◌, allowed, once, one_number}
 use Rattle.df_lang.specs.StandsAbove.{Above, nothing, fixed_of, version_of}
 use Rattle.df_lang.specs.Values.{factors_from}
-use Rattle.df_lang.specs.Statements.{word_of, meaning, statement_line, first_line, version_line, step, group_line, fixed_line, subgroup_line, shift_line, mult_line, size_line, lambda_line, inside_line, hole_line, block_of, member_line, require_line, forbid_line}
+use Rattle.df_lang.specs.Statements.{keyword_of, meaning, statement_line, first_line, version_line, step, group_line, fixed_line, subgroup_line, shift_line, mult_line, size_line, lambda_line, inside_line, hole_line, block_of, member_line, require_line, forbid_line}
 use Rattle.df_lang.specs.DraftRules.{shape_above, sizes_above, points_above, IsVersion, HeadKept, NamesKept, MultsKept, SizesKept, BlocksKept, Keeps, IsEarly, StandsKept}
 use Rattle.df_lang.proofs.RulesKept.{bind_kept, allowed_kept, there, one_number_kept}
 use Rattle.df_lang.proofs.ValuesKept.{factors_kept}
@@ -33,26 +33,26 @@ module _ (a b : Above) (tokens : List (List ℕ)) (k : Keeps a) where
   grouped_already None is h = absurd cc
   grouped_already (Some fs) is h = absurd cc
 
-  pub meaning_kept : (w : Word) → meaning a w tokens ≡ Ok b → Keeps b
+  pub meaning_kept : (w : Keyword) → meaning a w tokens ≡ Ok b → Keeps b
   unfolding meaning group_line
-  meaning_kept word.Group h = absurd (grouped_already a.group k.head.group_stated h)
-  meaning_kept word.Fixed h = fixed_line_kept a b tokens k h
-  meaning_kept word.Subgroup h = subgroup_line_kept a b tokens k h
-  meaning_kept word.Shift h = shift_line_kept a b tokens k h
-  meaning_kept word.Mult h = mult_line_kept a b tokens k h
-  meaning_kept word.Size h = size_line_kept a b tokens k h
-  meaning_kept word.Lambda h = lambda_line_kept a b tokens k h
-  meaning_kept word.Inside h = inside_line_kept a b tokens k h
-  meaning_kept word.Hole h = hole_line_kept a b tokens k h
-  meaning_kept word.Base h = member_line_kept a b tokens k kind.Base h
-  meaning_kept word.Short h = member_line_kept a b tokens k kind.Short h
-  meaning_kept word.Require h = let s = in_second (λ _. require_line a tokens) h in require_line_kept a b tokens k s.0 s.1
-  meaning_kept word.Forbid h = let s = in_second (λ _. forbid_line a tokens) h in forbid_line_kept a b tokens k s.0 s.1
+  meaning_kept keyword.Group h = absurd (grouped_already a.group k.head.group_stated h)
+  meaning_kept keyword.Fixed h = fixed_line_kept a b tokens k h
+  meaning_kept keyword.Subgroup h = subgroup_line_kept a b tokens k h
+  meaning_kept keyword.Shift h = shift_line_kept a b tokens k h
+  meaning_kept keyword.Mult h = mult_line_kept a b tokens k h
+  meaning_kept keyword.Size h = size_line_kept a b tokens k h
+  meaning_kept keyword.Lambda h = lambda_line_kept a b tokens k h
+  meaning_kept keyword.Inside h = inside_line_kept a b tokens k h
+  meaning_kept keyword.Hole h = hole_line_kept a b tokens k h
+  meaning_kept keyword.Base h = member_line_kept a b tokens k kind.Base h
+  meaning_kept keyword.Short h = member_line_kept a b tokens k kind.Short h
+  meaning_kept keyword.Require h = let s = in_second (λ _. require_line a tokens) h in require_line_kept a b tokens k s.0 s.1
+  meaning_kept keyword.Forbid h = let s = in_second (λ _. forbid_line a tokens) h in forbid_line_kept a b tokens k s.0 s.1
 
   pub statement_kept : (first : List ℕ) → statement_line a first tokens ≡ Ok b → Keeps b
   unfolding statement_line
   statement_kept first h =
-      let w = bind_kept (ok_or (word_of first) BadWord) (λ w. meaning a w tokens) b h in
+      let w = bind_kept (ok_or (keyword_of first) BadWord) (λ w. meaning a w tokens) b h in
       meaning_kept w.0 w.2
 
 -- above the line of the group
@@ -88,26 +88,26 @@ module _ (v : ℕ) (b : Above) (tokens : List (List ℕ)) (is : IsVersion v) whe
   none_stated true f g fails h = let e = sym (fails tt) ∙ h in absurd cc
   none_stated false f g fails h = absurd cc
 
-  early_meaning_kept : (w : Word) → meaning (record nothing { version = Some v }) w tokens ≡ Ok b → Keeps b
+  early_meaning_kept : (w : Keyword) → meaning (record nothing { version = Some v }) w tokens ≡ Ok b → Keeps b
   unfolding meaning fixed_line subgroup_line shift_line mult_line size_line lambda_line inside_line hole_line member_line require_line forbid_line block_of
-  early_meaning_kept word.Group h = group_kept h
-  early_meaning_kept word.Fixed h = absurd cc
-  early_meaning_kept word.Subgroup h = absurd cc
-  early_meaning_kept word.Shift h = absurd cc
-  early_meaning_kept word.Mult h = absurd cc
-  early_meaning_kept word.Size h = absurd cc
-  early_meaning_kept word.Lambda h = absurd cc
-  early_meaning_kept word.Inside h = absurd cc
-  early_meaning_kept word.Hole h = absurd cc
-  early_meaning_kept word.Base h = absurd cc
-  early_meaning_kept word.Short h = absurd cc
-  early_meaning_kept word.Require h = absurd (none_stated (v == 2) (Missing needed.Group) (λ _. require_line (record nothing { version = Some v }) tokens) (λ _. refl) h)
-  early_meaning_kept word.Forbid h = absurd (none_stated (v == 2) (Missing needed.Group) (λ _. forbid_line (record nothing { version = Some v }) tokens) (λ _. refl) h)
+  early_meaning_kept keyword.Group h = group_kept h
+  early_meaning_kept keyword.Fixed h = absurd cc
+  early_meaning_kept keyword.Subgroup h = absurd cc
+  early_meaning_kept keyword.Shift h = absurd cc
+  early_meaning_kept keyword.Mult h = absurd cc
+  early_meaning_kept keyword.Size h = absurd cc
+  early_meaning_kept keyword.Lambda h = absurd cc
+  early_meaning_kept keyword.Inside h = absurd cc
+  early_meaning_kept keyword.Hole h = absurd cc
+  early_meaning_kept keyword.Base h = absurd cc
+  early_meaning_kept keyword.Short h = absurd cc
+  early_meaning_kept keyword.Require h = absurd (none_stated (v == 2) (Missing needed.Group) (λ _. require_line (record nothing { version = Some v }) tokens) (λ _. refl) h)
+  early_meaning_kept keyword.Forbid h = absurd (none_stated (v == 2) (Missing needed.Group) (λ _. forbid_line (record nothing { version = Some v }) tokens) (λ _. refl) h)
 
   early_statement_kept : (first : List ℕ) → statement_line (record nothing { version = Some v }) first tokens ≡ Ok b → Keeps b
   unfolding statement_line
   early_statement_kept first h =
-      let w = bind_kept (ok_or (word_of first) BadWord) (λ w. meaning (record nothing { version = Some v }) w tokens) b h in
+      let w = bind_kept (ok_or (keyword_of first) BadWord) (λ w. meaning (record nothing { version = Some v }) w tokens) b h in
       early_meaning_kept w.0 w.2
 
 version_kept : (b : Above) (tokens : List (List ℕ)) → version_line nothing tokens ≡ Ok b → IsEarly b
@@ -146,9 +146,9 @@ pub nothing_kept : StandsKept nothing
 nothing_kept = inl record { bare = refl; version = tt }
 
 -- the end of a source
-word_or_all : (names : List Named) (o : Option Which) → IfSome o (IsWord names) → IsWord names (unwrap_or o which.All)
-word_or_all names None is = tt
-word_or_all names (Some w) is = is
+which_or_all : (names : List Named) (o : Option Which) → IfSome o (IsWord names) → IsWord names (unwrap_or o which.All)
+which_or_all names None is = tt
+which_or_all names (Some w) is = is
 
 mults_or_none : (fs : List ℕ) (o : Option (List ℕ)) → IfSome o (MultsKept fs) → MultsKept fs (unwrap_or o [])
 mults_or_none fs None is = record { each = λ i d l. absurd (omega arith); once = λ i j d l m. absurd (omega arith) }
@@ -191,7 +191,7 @@ end_kept a ks n k sized targeted few =
       names = k.names.each;
       apart = k.names.apart;
       few_names = few;
-      shift = word_or_all a.names a.shift k.shift;
+      shift = which_or_all a.names a.shift k.shift;
       mults = mults.each;
       mults_once = mults.once;
       some_size = sizes.some;

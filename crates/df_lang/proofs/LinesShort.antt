@@ -19,15 +19,15 @@ use Rattle.df_lang.specs.declared.parts.Kind.TheVariants as kind
 use Rattle.df_lang.specs.Names.{is_letter, is_name_byte}
 use Rattle.df_lang.specs.Problems.{Named, IsNamed, IsMultiplier, IsSize, IsBlock}
 use Rattle.df_lang.specs.Canonical.{element_text, point_text, which_text, number_tokens, subgroup_tokens, block_tokens, member_tokens, kind_text}
-use Rattle.df_lang.specs.Separated.{behind}
-use Rattle.df_lang.proofs.Behind.{join_behind}
+use Rattle.df_lang.specs.Separated.{each_after}
+use Rattle.df_lang.proofs.EachAfter.{join_after}
 use Rattle.df_lang.proofs.EachMember.{each_from, each_so}
 use Rattle.df_lang.proofs.SetsBelow.{set_below, set_few}
-use Rattle.df_lang.proofs.Lengths.{IsShort, behind_short, numbers_short, element_short, points_short}
+use Rattle.df_lang.proofs.Lengths.{IsShort, after_short, numbers_short, element_short, points_short}
 
--- a line of a word and other tokens
-pub tokens_short : (word : List ℕ) (n : ℕ) (texts : List (List ℕ)) → Each (IsShort n) texts → length (spaced (word ∷ texts)) ≤ length word + length texts * (n + 1)
-tokens_short word n texts each = omega (arith, ap length (join_behind 32 word texts), length-append word (behind 32 texts), behind_short 32 n texts each)
+-- a line of a keyword and other tokens
+pub tokens_short : (keyword : List ℕ) (n : ℕ) (texts : List (List ℕ)) → Each (IsShort n) texts → length (spaced (keyword ∷ texts)) ≤ length keyword + length texts * (n + 1)
+tokens_short keyword n texts each = omega (arith, ap length (join_after 32 keyword texts), length-append keyword (each_after 32 texts), after_short 32 n texts each)
 
 -- the line `group`
 pub group_short : (fs : List ℕ) → IsShape fs → length (spaced (codes "group" ∷ map decimal fs)) < 1024
@@ -35,9 +35,9 @@ group_short fs is =
     let small = each_so IsFactor (λ f. f < 1000) fs (λ f h. omega (arith, h.1)) (each_from IsFactor fs is.factors) in
     omega (arith, tokens_short (codes "group") 3 (map decimal fs) (numbers_short fs small), length-map fs decimal, is.few)
 
--- a word and a number
-pub number_line_short : (word : List ℕ) (n : ℕ) → length word ≤ 16 → n < 10000000 → length (spaced (number_tokens word n)) < 1024
-number_line_short word n h small = omega (arith, tokens_short word 7 (decimal n ∷ []) (length-decimal-le 7 n (omega arith) small (omega (arith, small)), tt), h)
+-- a keyword and a number
+pub number_line_short : (keyword : List ℕ) (n : ℕ) → length keyword ≤ 16 → n < 10000000 → length (spaced (number_tokens keyword n)) < 1024
+number_line_short keyword n h small = omega (arith, tokens_short keyword 7 (decimal n ∷ []) (length-decimal-le 7 n (omega arith) small (omega (arith, small)), tt), h)
 
 -- the line `mult`
 module _ (fs ms : List ℕ) (is : IsShape fs) (each : All (IsMultiplier fs) ms) (once : AllPairs (λ m n. m ≢ n) ms) where
@@ -64,7 +64,7 @@ sizes_short ks is =
     let small = each_so (λ k. k < 17) (λ k. k < 1000) ks (λ k h. omega (arith, h)) (set_below 17 ks is) in
     omega (arith, tokens_short (codes "k") 3 (map decimal ks) (numbers_short ks small), length-map ks decimal, set_few 17 ks is)
 
--- a subgroup word
+-- a subgroup name
 le_true : (k : ℕ) (u w : Bool) → leb k 16 && u && w ≡ true → k ≤ 16
 le_true k u w h = grind (arith, tests)
 
@@ -109,20 +109,20 @@ size_high v (k ∷ ks) n each h =
       | inr r ↦ r
     ]
 
-pub block_line_short : (fs word : List ℕ) (v : ℕ) (ks block : List ℕ) → IsShape fs → v ≤ 128 → length word ≤ 16 → Each (IsSize v) ks → IsBlock v ks block → length (spaced (block_tokens fs word block)) < 1024
-block_line_short fs word v ks block is few h sizes b =
+pub block_line_short : (fs keyword : List ℕ) (v : ℕ) (ks block : List ℕ) → IsShape fs → v ≤ 128 → length keyword ≤ 16 → Each (IsSize v) ks → IsBlock v ks block → length (spaced (block_tokens fs keyword block)) < 1024
+block_line_short fs keyword v ks block is few h sizes b =
     let small = each_so (λ p. p < v) (λ p. p < 256) block (λ p l. omega (arith, l)) (set_below v block b.set) in
-    omega (arith, tokens_short word 28 (map (point_text fs) block) (points_short fs block is small), length-map block (point_text fs), size_high v ks (length block) sizes b.size)
+    omega (arith, tokens_short keyword 28 (map (point_text fs) block) (points_short fs block is small), length-map block (point_text fs), size_high v ks (length block) sizes b.size)
 
 pub kind_short : (k : Kind) → length (kind_text k) ≤ 16
 kind_short kind.Base = omega arith
 kind_short kind.Short = omega arith
 
 -- a block of a list of blocks, and a member of the family
-pub listed_short : (fs word : List ℕ) (v : ℕ) (ks : List ℕ) (blocks : List (List ℕ)) (n : ℕ) (b : List ℕ) → IsShape fs → v ≤ 128 → length word ≤ 16 → All (IsSize v) ks → All (IsBlock v ks) blocks
-    → n < length blocks → b ≡ get_or blocks n b → length (spaced (block_tokens fs word b)) < 1024
-listed_short fs word v ks blocks n b is few h sizes all l e =
-    block_line_short fs word v ks b is few h (each_from (IsSize v) ks sizes) (subst (IsBlock v ks) (sym e) (all n b l))
+pub listed_short : (fs keyword : List ℕ) (v : ℕ) (ks : List ℕ) (blocks : List (List ℕ)) (n : ℕ) (b : List ℕ) → IsShape fs → v ≤ 128 → length keyword ≤ 16 → All (IsSize v) ks → All (IsBlock v ks) blocks
+    → n < length blocks → b ≡ get_or blocks n b → length (spaced (block_tokens fs keyword b)) < 1024
+listed_short fs keyword v ks blocks n b is few h sizes all l e =
+    block_line_short fs keyword v ks b is few h (each_from (IsSize v) ks sizes) (subst (IsBlock v ks) (sym e) (all n b l))
 
 pub member_short : (fs : List ℕ) (v : ℕ) (ks : List ℕ) (family : List Member) (n : ℕ) (m : Member) → IsShape fs → v ≤ 128 → All (IsSize v) ks → All (λ (m : Member). IsBlock v ks m.block) family
     → n < length family → m ≡ get_or family n m → length (spaced (member_tokens fs m)) < 1024

@@ -1,4 +1,4 @@
--- Printed names and subgroup words, read back.
+-- Printed names and subgroup names, read back.
 use Rattle.std.proofs.Common.{◌≡◌, ℕ, zero, suc, ◌<◌, Bool, true, false, ltb, ◌||◌, List, [], ◌∷◌, length, map, get_or, Some, None, Ok, codes, bytes_eq, refl, sym, ap, arith, tests}
 use Rattle.std.specs.List.{position_or_len}
 use Rattle.std.proofs.lemmas.Slice.Eq.{bytes_eq-Decides}
@@ -81,7 +81,7 @@ neither true b e = absurd cc
 neither false true e = absurd cc
 neither false false e = (refl, refl)
 
--- a subgroup word
+-- a subgroup name
 pub which_back : (fs : List ℕ) (names : List Named) (w : Which) → Each (IsNamed fs) names → InOrder DifferInName names → IsWord names w → which_of names (which_text names w) ≡ Ok w
 unfolding which_of
 which_back fs names which.All each order is = refl

@@ -29,7 +29,7 @@ pub one_number_back : (low high : ℕ) (fault : SourceFault) (n : ℕ) → n < 2
 unfolding one_number
 one_number_back low high fault n h l u = rw (number_in_back low high fault n h l u) refl
 
--- factors behind those that are kept
+-- factors after those that are taken
 pub factors_back : (kept fs : List ℕ) → All IsFactor fs → 0 < length kept + length fs → length kept + length fs ≤ 7 → order_of kept * order_of fs ≤ 128
     → factors_from kept (map decimal fs) ≡ Ok (kept ++ fs)
 unfolding factors_from
@@ -48,7 +48,7 @@ factors_back kept (f ∷ fs) each some few small =
     ∙ factors_back (kept ++ f ∷ []) fs others (omega (arith, len)) (omega (arith, len)) more
     ∙ ap Ok (append_assoc kept (f ∷ []) fs)
 
--- multipliers behind those that are kept
+-- multipliers after those that are taken
 pub mults_back : (e : ℕ) (kept ms : List ℕ) → e ≤ 128 → 0 < length kept + length ms → Each (λ m. m < e) ms → Each (λ m. is_unit e m ≡ true) ms → InOrder (λ m n. m ≡ n → ⊥) ms
     → Follows (λ m n. m ≡ n → ⊥) kept ms → mults_from e kept (map decimal ms) ≡ Ok (kept ++ ms)
 unfolding mults_from
@@ -62,7 +62,7 @@ mults_back e kept (m ∷ ms) small some below unit order follows =
     let ih = mults_back e (kept ++ m ∷ []) ms small (omega (arith, length-append kept (m ∷ []))) below.1 unit.1 order.1 (follows_more (λ m n. m ≡ n → ⊥) kept m ms order.0 follows.1) in
     rw (value_back m (omega arith), unit.0, same, new) (ih ∙ ap Ok (append_assoc kept (m ∷ []) ms))
 
--- sizes behind those that are kept
+-- sizes after those that are taken
 pub sizes_back : (most : ℕ) (kept ks : List ℕ) → most ≤ 16 → Each (λ k. 2 ≤ k) ks → Each (λ k. k ≤ most) ks → InOrder (λ p q. p < q) ks → Follows (λ p q. p < q) kept ks
     → sizes_from most kept (map decimal ks) ≡ Ok (kept ++ ks)
 unfolding sizes_from

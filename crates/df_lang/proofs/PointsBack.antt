@@ -99,14 +99,14 @@ point_back fs fixed p is few low =
           rw past (fixed_back fs fixed (p - order_of fs) is few (omega arith) ∙ ap Some (omega arith))
     ]
 
--- elements behind those that are kept
+-- elements after those that are taken
 pub elements_back : (fs kept es : List ℕ) → IsShape fs → Each (λ e. e < order_of fs) es → elements_from fs kept (map (element_text fs) es) ≡ Ok (kept ++ es)
 unfolding elements_from
 elements_back fs kept [] is below = ap Ok (sym (append-nil kept))
 elements_back fs kept (e ∷ es) is below =
     rw (element_back fs e is below.0) (elements_back fs (kept ++ e ∷ []) es is below.1 ∙ ap Ok (append_assoc kept (e ∷ []) es))
 
--- points behind those that are kept
+-- points after those that are taken
 module _ (fs : List ℕ) (fixed : ℕ) (ks : List ℕ) (is : IsShape fs) (few : fixed ≤ 128) where
   points_kept : (points block : List ℕ) → Each (λ p. p < order_of fs + fixed) block → InOrder (λ p q. p < q) block → Follows (λ p q. p < q) points block
       → points_from fs fixed ks points (map (point_text fs) block) ≡ must (has_member ks (length (points ++ block))) BlockSize (points ++ block)

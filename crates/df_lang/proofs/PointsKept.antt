@@ -131,10 +131,10 @@ subgroup_kept fs names tokens named h =
     let is : (name.0, generated fs es.0) ≡ named = cc in
     subst (λ (n : Named). IsNamed fs n × (place_of names n.0 ≡ None)) is (record { name = new.0; free = new.1; subgroup = (es.0, refl) }, new.2)
 
--- a subgroup word
-word_of_place : (names : List Named) (o : Option ℕ) (w : Which) → ((i : ℕ) → o ≡ Some i → i < length names) → ok_or (option_map which.Named o) UnknownName ≡ Ok w → IsWord names w
-word_of_place names None w low h = absurd cc
-word_of_place names (Some i) w low h = let is : which.Named i ≡ w = cc in subst (IsWord names) is (low i refl)
+-- a subgroup name
+which_of_place : (names : List Named) (o : Option ℕ) (w : Which) → ((i : ℕ) → o ≡ Some i → i < length names) → ok_or (option_map which.Named o) UnknownName ≡ Ok w → IsWord names w
+which_of_place names None w low h = absurd cc
+which_of_place names (Some i) w low h = let is : which.Named i ≡ w = cc in subst (IsWord names) is (low i refl)
 
 pub which_kept : (names : List Named) (token : List ℕ) (w : Which) → which_of names token ≡ Ok w → IsWord names w
 unfolding which_of
@@ -142,7 +142,7 @@ which_kept names token w h = by (bytes_eq token (codes "all")) (bytes_eq token (
   by : (u v : Bool) → (if u then Ok which.All else (if v then Ok which.Trivial else ok_or (option_map which.Named (place_of names token)) UnknownName)) ≡ Ok w → IsWord names w
   by true v h = let is : which.All ≡ w = cc in subst (IsWord names) is tt
   by false true h = let is : which.Trivial ≡ w = cc in subst (IsWord names) is tt
-  by false false h = word_of_place names (place_of names token) w (placed names token) h
+  by false false h = which_of_place names (place_of names token) w (placed names token) h
 
 pub shift_kept : (names : List Named) (tokens : List (List ℕ)) (w : Which) → shift_of names tokens ≡ Ok w → IsWord names w
 unfolding shift_of

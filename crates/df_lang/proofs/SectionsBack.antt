@@ -85,8 +85,8 @@ module _ (s : Stated) (is : IsStated s) where
   unfolding step statement_line meaning inside_line inside_of
   inside_at None h = refl
   inside_at (Some i) h =
-      let word = which_back s.group s.names i.subgroup (each_from (IsNamed s.group) s.names is.names) (order_from_pairs DifferInName s.names is.apart) h.subgroup in
-      rw (word, number_in_back 0 2000000 TargetRange i.target (omega (arith, h.target)) (omega arith) h.target) refl
+      let keyword = which_back s.group s.names i.subgroup (each_from (IsNamed s.group) s.names is.names) (order_from_pairs DifferInName s.names is.apart) h.subgroup in
+      rw (keyword, number_in_back 0 2000000 TargetRange i.target (omega (arith, h.target)) (omega arith) h.target) refl
 
   -- the lines `base` and `short`
   block_back : (b : List ℕ) → IsBlock (point_count s) s.sizes b → points_from s.group s.fixed s.sizes [] (map (point_text s.group) b) ≡ Ok b

@@ -1,4 +1,4 @@
--- The statements of the sections that are left, one section on.
+-- The statements of the sections that remain, one section on.
 use Rattle.std.proofs.Common.{◌≡◌, ℕ, zero, suc, ◌+◌, ◌-◌, ◌<◌, ◌≤◌, List, [], ◌∷◌, ◌++◌, length, get_or, drop, Some, refl, ap, ◌∙◌, arith, length-append}
 use Rattle.std.specs.Prelude.{slice_get}
 use Rattle.std.specs.List.{flat_map}
@@ -43,6 +43,6 @@ module _ (p : Stated) (i : ℕ) (h : i < 13) (d : Section) where
       ∙ get_front (statements_in p (get_or sections i d)) (flat_map (statements_in p) (drop (i + 1) sections)) (line - before) (omega (arith, is))
       ∙ slice_get-get_or (statements_in p (get_or sections i d)) (line - before) [] (omega (arith, is))
 
--- after the last section nothing is left
+-- after the last section nothing remains
 pub none_left : (p : Stated) (i : ℕ) → 13 ≤ i → flat_map (statements_in p) (drop i sections) ≡ []
 none_left p i h = ap (flat_map (statements_in p)) (drop_all i sections h)

@@ -26,9 +26,9 @@ use Rattle.df_lang.specs.StandsAbove.{Above, nothing}
 use Rattle.df_lang.specs.Statements.{step}
 use Rattle.df_lang.specs.Sources.{source, from_line, at_line, whole}
 use Rattle.df_lang.specs.Canonical.{element_text, fixed_text, point_text, which_text, number_tokens, subgroup_tokens, mult_statements, inside_statements, kind_text, block_tokens, member_tokens, statements_in, statements_of, sections, canonical}
-use Rattle.df_lang.specs.Separated.{behind}
+use Rattle.df_lang.specs.Separated.{each_after}
 use Rattle.df_lang.specs.RoundTrip.{CanonicalLinesReadBack}
-use Rattle.df_lang.proofs.Behind.{join_behind}
+use Rattle.df_lang.proofs.EachAfter.{join_after}
 use Rattle.df_lang.proofs.Lengths.{residues_small, residues_length}
 use Rattle.df_lang.proofs.EachMember.{each_from, each_append, each_map, each_so}
 use Rattle.df_lang.proofs.SetsBelow.{set_below}
@@ -45,9 +45,9 @@ pub record IsInked (token : List ℕ) : Type 0 where
 inked_from : (token : List ℕ) → 0 < length token → Each (λ b. 47 < b) token → IsInked token
 inked_from token some high = record { some = some; high = each_so (λ b. 47 < b) (λ b. 35 < b) token (λ b h. omega (arith, h)) high }
 
--- a word that is written out
-word_inked : (token : List ℕ) → ltb 0 (length token) ≡ true → list_all (λ b. ltb 47 b) token ≡ true → IsInked token
-word_inked token some high = inked_from token (grind (arith, tests)) (each_of token high) where
+-- a keyword that is written out
+keyword_inked : (token : List ℕ) → ltb 0 (length token) ≡ true → list_all (λ b. ltb 47 b) token ≡ true → IsInked token
+keyword_inked token some high = inked_from token (grind (arith, tests)) (each_of token high) where
   each_of : (bs : List ℕ) → list_all (λ b. ltb 47 b) bs ≡ true → Each (λ b. 47 < b) bs
   each_of [] h = tt
   each_of (b ∷ bs) h = (grind (arith, tests), each_of bs (grind (arith, tests)))
@@ -60,13 +60,13 @@ numbers_inked [] small = tt
 numbers_inked (n ∷ ns) small = (number_inked n (omega (arith, small.0)), numbers_inked ns small.1)
 
 -- joined tokens
-behind_high : (low c : ℕ) (texts : List (List ℕ)) → low < c → Each (λ t. Each (λ b. low < b) t) texts → Each (λ b. low < b) (behind c texts)
-behind_high low c [] h each = tt
-behind_high low c (t ∷ ts) h each = (h, each_append (λ b. low < b) t (behind c ts) each.0 (behind_high low c ts h each.1))
+after_high : (low c : ℕ) (texts : List (List ℕ)) → low < c → Each (λ t. Each (λ b. low < b) t) texts → Each (λ b. low < b) (each_after c texts)
+after_high low c [] h each = tt
+after_high low c (t ∷ ts) h each = (h, each_append (λ b. low < b) t (each_after c ts) each.0 (after_high low c ts h each.1))
 
 join_high : (low c : ℕ) (texts : List (List ℕ)) → low < c → Each (λ t. Each (λ b. low < b) t) texts → Each (λ b. low < b) (join_with_byte c texts)
 join_high low c [] h each = tt
-join_high low c (t ∷ ts) h each = rw (join_behind c t ts) (each_append (λ b. low < b) t (behind c ts) each.0 (behind_high low c ts h each.1))
+join_high low c (t ∷ ts) h each = rw (join_after c t ts) (each_append (λ b. low < b) t (each_after c ts) each.0 (after_high low c ts h each.1))
 
 join_some : (c : ℕ) (texts : List (List ℕ)) → 0 < length texts → Each IsInked texts → 0 < length (join_with_byte c texts)
 join_some c [] h each = absurd (omega arith)
@@ -135,59 +135,59 @@ named_inked fs (n ∷ ns) zero h each = name_inked fs n each.0
 named_inked fs (n ∷ ns) (suc i) h each = named_inked fs ns i (omega arith) each.1
 
 which_inked : (fs : List ℕ) (names : List Named) (w : Which) → Each (IsNamed fs) names → IsWord names w → IsInked (which_text names w)
-which_inked fs names which.All each is = word_inked (codes "all") refl refl
-which_inked fs names which.Trivial each is = word_inked (codes "none") refl refl
+which_inked fs names which.All each is = keyword_inked (codes "all") refl refl
+which_inked fs names which.Trivial each is = keyword_inked (codes "none") refl refl
 which_inked fs names (which.Named i) each is = named_inked fs names i is each
 
 kind_inked : (k : Kind) → IsInked (kind_text k)
-kind_inked kind.Base = word_inked (codes "base") refl refl
-kind_inked kind.Short = word_inked (codes "short") refl refl
+kind_inked kind.Base = keyword_inked (codes "base") refl refl
+kind_inked kind.Short = keyword_inked (codes "short") refl refl
 
 -- the tokens of each section
 mults_inked : (ms : List ℕ) → Each (λ m. m < 1000) ms → Each (Each IsInked) (mult_statements ms)
 mults_inked [] small = tt
-mults_inked (m ∷ ms) small = ((word_inked (codes "mult") refl refl, numbers_inked (m ∷ ms) small), tt)
+mults_inked (m ∷ ms) small = ((keyword_inked (codes "mult") refl refl, numbers_inked (m ∷ ms) small), tt)
 
 insides_inked : (fs : List ℕ) (names : List Named) (o : Option Inside) → Each (IsNamed fs) names → IfSome o (IsInside names) → Each (Each IsInked) (inside_statements names o)
 insides_inked fs names None each is = tt
-insides_inked fs names (Some i) each is = ((word_inked (codes "inside") refl refl, (which_inked fs names i.subgroup each is.subgroup, (number_inked i.target (omega (arith, is.target)), tt))), tt)
+insides_inked fs names (Some i) each is = ((keyword_inked (codes "inside") refl refl, (which_inked fs names i.subgroup each is.subgroup, (number_inked i.target (omega (arith, is.target)), tt))), tt)
 
-block_inked : (s : Stated) → IsStated s → (word b : List ℕ) → IsInked word → IsBlock (point_count s) s.sizes b → Each IsInked (block_tokens s.group word b)
-block_inked s is word b inked h =
+block_inked : (s : Stated) → IsStated s → (keyword b : List ℕ) → IsInked keyword → IsBlock (point_count s) s.sizes b → Each IsInked (block_tokens s.group keyword b)
+block_inked s is keyword b inked h =
     (inked, points_inked s.group b is.shape (each_so (λ p. p < point_count s) (λ p. p < 256) b (λ p l. omega (arith, l, is.points)) (set_below (point_count s) b h.set)))
 
-number_tokens_inked : (word : List ℕ) (n : ℕ) → IsInked word → n ≤ 2000000 → Each IsInked (number_tokens word n)
-number_tokens_inked word n inked h = (inked, (number_inked n (omega (arith, h)), tt))
+number_tokens_inked : (keyword : List ℕ) (n : ℕ) → IsInked keyword → n ≤ 2000000 → Each IsInked (number_tokens keyword n)
+number_tokens_inked keyword n inked h = (inked, (number_inked n (omega (arith, h)), tt))
 
 section_inked : (s : Stated) → IsStated s → (x : Section) → Each (Each IsInked) (statements_in s x)
 unfolding statements_in
 section_inked s is section.Version =
     elim (eqb s.version 2) as (λ v. Each (Each IsInked) (cond v ((codes "version" ∷ codes "2" ∷ []) ∷ []) [])) [
-      | true ↦ ((word_inked (codes "version") refl refl, (word_inked (codes "2") refl refl, tt)), tt)
+      | true ↦ ((keyword_inked (codes "version") refl refl, (keyword_inked (codes "2") refl refl, tt)), tt)
       | false ↦ tt
     ]
 section_inked s is section.Group =
-    ((word_inked (codes "group") refl refl, numbers_inked s.group (each_so IsFactor (λ f. f < 1000) s.group (λ f h. omega (arith, h.1)) (each_from IsFactor s.group is.shape.factors))), tt)
-section_inked s is section.Fixed = (number_tokens_inked (codes "fixed") s.fixed (word_inked (codes "fixed") refl refl) (omega (arith, is.fixed)), tt)
+    ((keyword_inked (codes "group") refl refl, numbers_inked s.group (each_so IsFactor (λ f. f < 1000) s.group (λ f h. omega (arith, h.1)) (each_from IsFactor s.group is.shape.factors))), tt)
+section_inked s is section.Fixed = (number_tokens_inked (codes "fixed") s.fixed (keyword_inked (codes "fixed") refl refl) (omega (arith, is.fixed)), tt)
 section_inked s is section.Subgroups =
     each_map (IsNamed s.group) (Each IsInked) (subgroup_tokens s.group) s.names
-    (λ n h. (word_inked (codes "subgroup") refl refl, (name_inked s.group n h, elements_inked s.group (canonical_of s.group n.1) is.shape))) (each_from (IsNamed s.group) s.names is.names)
-section_inked s is section.Shift = ((word_inked (codes "shift") refl refl, (which_inked s.group s.names s.shift (each_from (IsNamed s.group) s.names is.names) is.shift, tt)), tt)
+    (λ n h. (keyword_inked (codes "subgroup") refl refl, (name_inked s.group n h, elements_inked s.group (canonical_of s.group n.1) is.shape))) (each_from (IsNamed s.group) s.names is.names)
+section_inked s is section.Shift = ((keyword_inked (codes "shift") refl refl, (which_inked s.group s.names s.shift (each_from (IsNamed s.group) s.names is.names) is.shift, tt)), tt)
 section_inked s is section.Mult =
     mults_inked s.mults (each_so (IsMultiplier s.group) (λ m. m < 1000) s.mults (λ m h. omega (arith, h.below, exponent_high s.group is.shape)) (each_from (IsMultiplier s.group) s.mults is.mults))
 section_inked s is section.Sizes =
-    ((word_inked (codes "k") refl refl, numbers_inked s.sizes (each_so (IsSize (point_count s)) (λ k. k < 1000) s.sizes (λ k h. omega (arith, h.high)) (each_from (IsSize (point_count s)) s.sizes is.sizes))), tt)
-section_inked s is section.Lambda = (number_tokens_inked (codes "lambda") s.lambda (word_inked (codes "lambda") refl refl) is.lambda, tt)
+    ((keyword_inked (codes "k") refl refl, numbers_inked s.sizes (each_so (IsSize (point_count s)) (λ k. k < 1000) s.sizes (λ k h. omega (arith, h.high)) (each_from (IsSize (point_count s)) s.sizes is.sizes))), tt)
+section_inked s is section.Lambda = (number_tokens_inked (codes "lambda") s.lambda (keyword_inked (codes "lambda") refl refl) is.lambda, tt)
 section_inked s is section.Inside = insides_inked s.group s.names s.inside (each_from (IsNamed s.group) s.names is.names) is.inside
-section_inked s is section.Hole = (number_tokens_inked (codes "hole") s.hole (word_inked (codes "hole") refl refl) is.hole, tt)
+section_inked s is section.Hole = (number_tokens_inked (codes "hole") s.hole (keyword_inked (codes "hole") refl refl) is.hole, tt)
 section_inked s is section.Family =
     let IsHere : Member → Type 0 = λ m. IsBlock (point_count s) s.sizes m.block in
     each_map IsHere (Each IsInked) (member_tokens s.group) s.family (λ m h. block_inked s is (kind_text m.kind) m.block (kind_inked m.kind) h) (each_from IsHere s.family is.family)
 section_inked s is section.Required =
-    each_map (IsBlock (point_count s) s.sizes) (Each IsInked) (block_tokens s.group (codes "require")) s.required (λ b h. block_inked s is (codes "require") b (word_inked (codes "require") refl refl) h)
+    each_map (IsBlock (point_count s) s.sizes) (Each IsInked) (block_tokens s.group (codes "require")) s.required (λ b h. block_inked s is (codes "require") b (keyword_inked (codes "require") refl refl) h)
     (each_from (IsBlock (point_count s) s.sizes) s.required is.required)
 section_inked s is section.Forbidden =
-    each_map (IsBlock (point_count s) s.sizes) (Each IsInked) (block_tokens s.group (codes "forbid")) s.forbidden (λ b h. block_inked s is (codes "forbid") b (word_inked (codes "forbid") refl refl) h)
+    each_map (IsBlock (point_count s) s.sizes) (Each IsInked) (block_tokens s.group (codes "forbid")) s.forbidden (λ b h. block_inked s is (codes "forbid") b (keyword_inked (codes "forbid") refl refl) h)
     (each_from (IsBlock (point_count s) s.sizes) s.forbidden is.forbidden)
 
 statements_inked : (s : Stated) → IsStated s → Each (Each IsInked) (statements_of s)

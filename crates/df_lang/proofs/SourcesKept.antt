@@ -9,13 +9,13 @@ use Rattle.df_lang.specs.declared.fault.SourceFault.TheVariants.{BadWord, BadNum
 use Rattle.df_lang.specs.declared.parts.Kind.{Kind}
 use Rattle.df_lang.specs.declared.parts.Kind.TheVariants as kind
 use Rattle.df_lang.specs.declared.parts.Which.TheVariants as which
-use Rattle.df_lang.specs.declared.parts.Word.{Word}
-use Rattle.df_lang.specs.declared.parts.Word.TheVariants as word
+use Rattle.df_lang.specs.declared.parts.Keyword.{Keyword}
+use Rattle.df_lang.specs.declared.parts.Keyword.TheVariants as keyword
 use Rattle.df_lang.specs.Problems.{Named, Stated, IsStated}
 use Rattle.df_lang.specs.Rules.{◌>>=◌, allowed, once, one_number}
 use Rattle.df_lang.specs.StandsAbove.{Above, nothing, group_of, sizes_of, lambda_of, fixed_of, version_of}
 use Rattle.df_lang.specs.Values.{factors_from, subgroup_of, shift_of, mults_from, sizes_read, inside_of}
-use Rattle.df_lang.specs.Statements.{word_of, meaning, statement_line, first_line, version_line, step, group_line, fixed_line, subgroup_line, shift_line, mult_line, size_line, lambda_line, inside_line, hole_line, block_of, member_line, require_line, forbid_line}
+use Rattle.df_lang.specs.Statements.{keyword_of, meaning, statement_line, first_line, version_line, step, group_line, fixed_line, subgroup_line, shift_line, mult_line, size_line, lambda_line, inside_line, hole_line, block_of, member_line, require_line, forbid_line}
 use Rattle.df_lang.specs.Sources.{source, from_line, at_line, whole}
 use Rattle.df_lang.specs.DraftRules.{StandsKept}
 use Rattle.df_lang.proofs.RulesKept.{bind_kept, there}
@@ -92,25 +92,25 @@ module _ (a b : Above) (tokens : List (List ℕ)) where
   unfolding forbid_line
   forbid_taken = after (block_of a (length a.required + length a.forbidden) tokens) _ (λ block. same_taken _ refl refl)
 
-  meaning_taken : (w : Word) → meaning a w tokens ≡ Ok b → taken b ≤ taken a + 1
+  meaning_taken : (w : Keyword) → meaning a w tokens ≡ Ok b → taken b ≤ taken a + 1
   unfolding meaning
-  meaning_taken word.Group = group_taken
-  meaning_taken word.Fixed = fixed_taken
-  meaning_taken word.Subgroup = subgroup_taken
-  meaning_taken word.Shift = shift_taken
-  meaning_taken word.Mult = mult_taken
-  meaning_taken word.Size = size_taken
-  meaning_taken word.Lambda = lambda_taken
-  meaning_taken word.Inside = inside_taken
-  meaning_taken word.Hole = hole_taken
-  meaning_taken word.Base = member_taken kind.Base
-  meaning_taken word.Short = member_taken kind.Short
-  meaning_taken word.Require = after (allowed (version_of a == 2) BadWord) _ (λ _. require_taken)
-  meaning_taken word.Forbid = after (allowed (version_of a == 2) BadWord) _ (λ _. forbid_taken)
+  meaning_taken keyword.Group = group_taken
+  meaning_taken keyword.Fixed = fixed_taken
+  meaning_taken keyword.Subgroup = subgroup_taken
+  meaning_taken keyword.Shift = shift_taken
+  meaning_taken keyword.Mult = mult_taken
+  meaning_taken keyword.Size = size_taken
+  meaning_taken keyword.Lambda = lambda_taken
+  meaning_taken keyword.Inside = inside_taken
+  meaning_taken keyword.Hole = hole_taken
+  meaning_taken keyword.Base = member_taken kind.Base
+  meaning_taken keyword.Short = member_taken kind.Short
+  meaning_taken keyword.Require = after (allowed (version_of a == 2) BadWord) _ (λ _. require_taken)
+  meaning_taken keyword.Forbid = after (allowed (version_of a == 2) BadWord) _ (λ _. forbid_taken)
 
   statement_taken : (first : List ℕ) → statement_line a first tokens ≡ Ok b → taken b ≤ taken a + 1
   unfolding statement_line
-  statement_taken first = after (ok_or (word_of first) BadWord) _ meaning_taken
+  statement_taken first = after (ok_or (keyword_of first) BadWord) _ meaning_taken
 
 line_taken : (a b : Above) (tokens : List (List ℕ)) → step a tokens ≡ Ok b → taken b ≤ taken a + 1
 unfolding step first_line

@@ -74,18 +74,18 @@ blocks_sized version v ks ms rs ns kept = record {
 }
 
 -- more names
-word_wider : (names : List Named) (n : Named) (w : Which) → IsWord names w → IsWord (names ++ n ∷ []) w
-word_wider names n which.All is = tt
-word_wider names n which.Trivial is = tt
-word_wider names n (which.Named i) is = omega (arith, length_push names n)
+which_wider : (names : List Named) (n : Named) (w : Which) → IsWord names w → IsWord (names ++ n ∷ []) w
+which_wider names n which.All is = tt
+which_wider names n which.Trivial is = tt
+which_wider names n (which.Named i) is = omega (arith, length_push names n)
 
 shift_wider : (names : List Named) (n : Named) (o : Option Which) → IfSome o (IsWord names) → IfSome o (IsWord (names ++ n ∷ []))
 shift_wider names n None is = tt
-shift_wider names n (Some w) is = word_wider names n w is
+shift_wider names n (Some w) is = which_wider names n w is
 
 inside_wider : (names : List Named) (n : Named) (o : Option Inside) → IfSome o (IsInside names) → IfSome o (IsInside (names ++ n ∷ []))
 inside_wider names n None is = tt
-inside_wider names n (Some i) is = record { subgroup = word_wider names n i.subgroup is.subgroup; target = is.target }
+inside_wider names n (Some i) is = record { subgroup = which_wider names n i.subgroup is.subgroup; target = is.target }
 
 module _ (a b : Above) (tokens : List (List ℕ)) (k : Keeps a) where
   pub fixed_line_kept : fixed_line a tokens ≡ Ok b → Keeps b

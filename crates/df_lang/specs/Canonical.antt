@@ -30,21 +30,21 @@ point_text fs p = if nat_lt p (order_of fs) then element_text fs p else fixed_te
 abbrev pub block_text : List ℕ → List ℕ → List ℕ
 block_text fs block = spaced (map (point_text fs) block)
 
--- a subgroup word
+-- a subgroup name
 abbrev pub which_text : List Named → Which → List ℕ
 which_text names which.All = codes "all"
 which_text names which.Trivial = codes "none"
 which_text names (which.Named i) = (get_or names i ([], [])).0
 
--- a word and a number
+-- a keyword and a number
 abbrev pub number_tokens : List ℕ → ℕ → List (List ℕ)
-number_tokens word n = word ∷ decimal n ∷ []
+number_tokens keyword n = keyword ∷ decimal n ∷ []
 
 -- a subgroup: its name and its canonical generators
 abbrev pub subgroup_tokens : List ℕ → Named → List (List ℕ)
 subgroup_tokens fs named = codes "subgroup" ∷ named.0 ∷ map (element_text fs) (canonical_of fs named.1)
 
--- the kept multipliers, where there are any
+-- the multipliers, where there are any
 abbrev pub mult_statements : List ℕ → List (List (List ℕ))
 mult_statements [] = []
 mult_statements (m ∷ ms) = (codes "mult" ∷ map decimal (m ∷ ms)) ∷ []
@@ -58,9 +58,9 @@ abbrev pub kind_text : Kind → List ℕ
 kind_text kind.Base = codes "base"
 kind_text kind.Short = codes "short"
 
--- a block behind the word of its kind
+-- a block after the keyword of its kind
 abbrev pub block_tokens : List ℕ → List ℕ → List ℕ → List (List ℕ)
-block_tokens fs word block = word ∷ map (point_text fs) block
+block_tokens fs keyword block = keyword ∷ map (point_text fs) block
 
 abbrev pub member_tokens : List ℕ → Member → List (List ℕ)
 member_tokens fs m = block_tokens fs (kind_text m.kind) m.block

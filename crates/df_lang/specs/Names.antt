@@ -13,6 +13,6 @@ is_name_byte b = is_letter b || (nat_le 48 b && nat_le b 57) || (b == 95)
 abbrev pub is_name : List ℕ → Bool
 is_name token = nat_le (length token) 16 && list_any is_letter (take 1 token) && list_all is_name_byte token
 
--- the words that name the whole group and the subgroup of 0 alone
+-- the keywords that name the whole group and the subgroup of 0 alone
 abbrev pub is_reserved : List ℕ → Bool
 is_reserved token = bytes_eq token (codes "all") || bytes_eq token (codes "none")

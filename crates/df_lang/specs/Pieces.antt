@@ -1,9 +1,9 @@
--- What is left of a text that is cut at its commas.
+-- What remains of a text that is cut at its commas.
 use Rattle.std.specs.Prelude.{ℕ, List, [], Option, Some, None}
 use Rattle.std.specs.List.{slice_split}
 use Rattle.df_lang.specs.Values.{is_comma}
 
--- the parts of a text, where one is left
+-- the pieces of a text, where one remains
 abbrev pub parts_left : Option (List ℕ) → List (List ℕ)
 parts_left None = []
 parts_left (Some text) = slice_split is_comma text

@@ -47,7 +47,7 @@ pub record IsNamed (fs : List ℕ) (named : Named) : Type 0 where
 abbrev pub DifferInName : Named → Named → Type 0
 DifferInName m n = m.0 ≢ n.0
 
--- a subgroup word names a subgroup that is there
+-- a subgroup name names a subgroup that is there
 abbrev pub IsWord : List Named → Which → Type 0
 IsWord names which.All = ⊤
 IsWord names which.Trivial = ⊤

@@ -8,7 +8,7 @@ use Rattle.df_lang.specs.declared.parts.Inside.{Inside}
 use Rattle.df_lang.specs.declared.parts.Member.{Member}
 use Rattle.df_lang.specs.Problems.{Named}
 
--- the parts of a problem that are stated so far; no version stands above the first line with tokens
+-- the pieces of a problem that are stated so far; no version stands above the first line with tokens
 pub record Above : Type 0 where
   pub version : Option ℕ
   pub group : Option (List ℕ)

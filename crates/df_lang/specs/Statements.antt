@@ -6,8 +6,8 @@ use Rattle.df_lang.specs.declared.fault.SourceFault.{SourceFault}
 use Rattle.df_lang.specs.declared.fault.SourceFault.TheVariants.{BadWord, BadNumber, FixedRange, TargetRange, TooManyBlocks}
 use Rattle.df_lang.specs.declared.parts.Kind.{Kind}
 use Rattle.df_lang.specs.declared.parts.Kind.TheVariants as kind
-use Rattle.df_lang.specs.declared.parts.Word.{Word}
-use Rattle.df_lang.specs.declared.parts.Word.TheVariants as word
+use Rattle.df_lang.specs.declared.parts.Keyword.{Keyword}
+use Rattle.df_lang.specs.declared.parts.Keyword.TheVariants as keyword
 use Rattle.df_lang.specs.declared.problem.TheConstants.{MOST_TARGET, MOST_BLOCKS}
 use Rattle.df_lang.specs.Rules.{◌>>=◌, allowed, once, one_number}
 use Rattle.df_lang.specs.StandsAbove.{Above, group_of, sizes_of, fixed_of, version_of}
@@ -69,42 +69,42 @@ require_line a tokens = block_of a (length a.required + length a.forbidden) toke
 unfoldable pub forbid_line : Above → List (List ℕ) → Result Above SourceFault
 forbid_line a tokens = block_of a (length a.required + length a.forbidden) tokens >>= λ b. Ok (record a { forbidden = a.forbidden ++ b ∷ [] })
 
--- the words of statements
-abbrev pub word_of : List ℕ → Option Word
-word_of token =
-    if bytes_eq token (codes "group") then Some word.Group else
-    (if bytes_eq token (codes "fixed") then Some word.Fixed else
-    (if bytes_eq token (codes "subgroup") then Some word.Subgroup else
-    (if bytes_eq token (codes "shift") then Some word.Shift else
-    (if bytes_eq token (codes "mult") then Some word.Mult else
-    (if bytes_eq token (codes "k") then Some word.Size else
-    (if bytes_eq token (codes "lambda") then Some word.Lambda else
-    (if bytes_eq token (codes "inside") then Some word.Inside else
-    (if bytes_eq token (codes "hole") then Some word.Hole else
-    (if bytes_eq token (codes "base") then Some word.Base else
-    (if bytes_eq token (codes "short") then Some word.Short else
-    (if bytes_eq token (codes "require") then Some word.Require else
-    (if bytes_eq token (codes "forbid") then Some word.Forbid else None))))))))))))
+-- the keywords of statements
+abbrev pub keyword_of : List ℕ → Option Keyword
+keyword_of token =
+    if bytes_eq token (codes "group") then Some keyword.Group else
+    (if bytes_eq token (codes "fixed") then Some keyword.Fixed else
+    (if bytes_eq token (codes "subgroup") then Some keyword.Subgroup else
+    (if bytes_eq token (codes "shift") then Some keyword.Shift else
+    (if bytes_eq token (codes "mult") then Some keyword.Mult else
+    (if bytes_eq token (codes "k") then Some keyword.Size else
+    (if bytes_eq token (codes "lambda") then Some keyword.Lambda else
+    (if bytes_eq token (codes "inside") then Some keyword.Inside else
+    (if bytes_eq token (codes "hole") then Some keyword.Hole else
+    (if bytes_eq token (codes "base") then Some keyword.Base else
+    (if bytes_eq token (codes "short") then Some keyword.Short else
+    (if bytes_eq token (codes "require") then Some keyword.Require else
+    (if bytes_eq token (codes "forbid") then Some keyword.Forbid else None))))))))))))
 
--- a statement, by its word: two words belong to version 2 alone
-unfoldable pub meaning : Above → Word → List (List ℕ) → Result Above SourceFault
-meaning a word.Group tokens = group_line a tokens
-meaning a word.Fixed tokens = fixed_line a tokens
-meaning a word.Subgroup tokens = subgroup_line a tokens
-meaning a word.Shift tokens = shift_line a tokens
-meaning a word.Mult tokens = mult_line a tokens
-meaning a word.Size tokens = size_line a tokens
-meaning a word.Lambda tokens = lambda_line a tokens
-meaning a word.Inside tokens = inside_line a tokens
-meaning a word.Hole tokens = hole_line a tokens
-meaning a word.Base tokens = member_line a kind.Base tokens
-meaning a word.Short tokens = member_line a kind.Short tokens
-meaning a word.Require tokens = allowed (version_of a == 2) BadWord >>= λ _. require_line a tokens
-meaning a word.Forbid tokens = allowed (version_of a == 2) BadWord >>= λ _. forbid_line a tokens
+-- a statement, by its keyword: two keywords belong to version 2 alone
+unfoldable pub meaning : Above → Keyword → List (List ℕ) → Result Above SourceFault
+meaning a keyword.Group tokens = group_line a tokens
+meaning a keyword.Fixed tokens = fixed_line a tokens
+meaning a keyword.Subgroup tokens = subgroup_line a tokens
+meaning a keyword.Shift tokens = shift_line a tokens
+meaning a keyword.Mult tokens = mult_line a tokens
+meaning a keyword.Size tokens = size_line a tokens
+meaning a keyword.Lambda tokens = lambda_line a tokens
+meaning a keyword.Inside tokens = inside_line a tokens
+meaning a keyword.Hole tokens = hole_line a tokens
+meaning a keyword.Base tokens = member_line a kind.Base tokens
+meaning a keyword.Short tokens = member_line a kind.Short tokens
+meaning a keyword.Require tokens = allowed (version_of a == 2) BadWord >>= λ _. require_line a tokens
+meaning a keyword.Forbid tokens = allowed (version_of a == 2) BadWord >>= λ _. forbid_line a tokens
 
 -- a line of a source whose version is known
 unfoldable pub statement_line : Above → List ℕ → List (List ℕ) → Result Above SourceFault
-statement_line a first tokens = ok_or (word_of first) BadWord >>= λ w. meaning a w tokens
+statement_line a first tokens = ok_or (keyword_of first) BadWord >>= λ w. meaning a w tokens
 
 -- the first line with tokens: it says the version, or is of version 1
 unfoldable pub first_line : Above → List ℕ → List (List ℕ) → Result Above SourceFault

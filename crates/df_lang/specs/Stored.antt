@@ -1,4 +1,4 @@
--- How the stored parts of a problem are seen.
+-- How the stored pieces of a problem are seen.
 use Rattle.std.specs.Prelude.{ℕ, List}
 use Rattle.arrayvec.specs.ArrayVec.{ArrayVec}
 use Rattle.df_lang.specs.Problems.{Named}

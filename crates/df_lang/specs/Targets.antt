@@ -12,7 +12,7 @@ use Rattle.df_lang.specs.Problems.{Stated}
 abbrev pub is_finite : Stated → ℕ → Bool
 is_finite s p = nat_lt p (order_of s.group)
 
--- the members of the subgroup that a word names
+-- the members of the subgroup that a keyword names
 abbrev pub subgroup_at : Stated → Which → List ℕ
 subgroup_at s which.All = range_with_len 0 (order_of s.group)
 subgroup_at s which.Trivial = 0 ∷ []

@@ -27,14 +27,14 @@ factors_from factors (token ∷ tokens) = number_of token >>= λ f. must (fits f
 abbrev pub is_comma : ℕ → Bool
 is_comma b = b == 44
 
--- the numbers of these parts: one for each factor, and below it
+-- the numbers of these pieces: one for each factor, and below it
 unfoldable pub residues_of : List ℕ → List (List ℕ) → Option (List ℕ)
 residues_of [] [] = Some []
 residues_of [] (part ∷ parts) = None
 residues_of (f ∷ fs) [] = None
 residues_of (f ∷ fs) (part ∷ parts) = value_of part >>? λ r. if nat_lt r f then option_map (λ rs. r ∷ rs) (residues_of fs parts) else None
 
--- an element, by its number: its parts stand between commas
+-- an element, by its number: its pieces stand between commas
 unfoldable pub element_of : List ℕ → List ℕ → Option ℕ
 element_of fs token = option_map (number fs) (residues_of fs (slice_split is_comma token))
 
@@ -68,18 +68,18 @@ name_of names token = allowed (is_name token) BadWord >>= λ _. must (not (is_ta
 unfoldable pub subgroup_of : List ℕ → List Named → List (List ℕ) → Result Named SourceFault
 subgroup_of fs names tokens = next tokens (λ first rest. name_of names first >>= λ name. elements_from fs [] rest >>= λ elements. Ok (name, generated fs elements))
 
--- a subgroup word
+-- a subgroup name
 unfoldable pub which_of : List Named → List ℕ → Result Which SourceFault
 which_of names token =
     if bytes_eq token (codes "all") then Ok which.All else
     (if bytes_eq token (codes "none") then Ok which.Trivial else
     ok_or (option_map which.Named (place_of names token)) UnknownName)
 
--- one subgroup word
+-- one subgroup name
 unfoldable pub shift_of : List Named → List (List ℕ) → Result Which SourceFault
 shift_of names tokens = next tokens (λ first rest. which_of names first >>= λ w. end rest w)
 
--- a multiplier is kept at its first place
+-- a multiplier counts at its first place
 abbrev pub kept_once : List ℕ → ℕ → List ℕ
 kept_once ms m = if has_member ms m then ms else ms ++ m ∷ []
 
@@ -102,7 +102,7 @@ sizes_read version most tokens =
 abbrev pub target_of : List ℕ → Result ℕ SourceFault
 target_of token = number_in 0 MOST_TARGET TargetRange token
 
--- a subgroup word and a target
+-- a subgroup name and a target
 unfoldable pub inside_of : List Named → List (List ℕ) → Result Inside SourceFault
 inside_of names tokens =
     next tokens (λ first rest. which_of names first >>= λ w. next rest (λ second rest. target_of second >>= λ n. end rest record { subgroup = w; target = n }))

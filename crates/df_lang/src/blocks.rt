@@ -11,7 +11,7 @@ use df_group::Shape;
 use df_io::Tokens;
 use df_subsets::Block;
 
-/// The block of the points that are left of a line, with one of the sizes.
+/// The block of the points of the rest of a line, with one of the sizes.
 #[tactic(auto, unfolding(crate::specs::Values::points_from))]
 pub(crate) fn block(
     shape: &Shape,

@@ -14,7 +14,7 @@ use indexmap::IndexMap;
 use std::alloc::Global;
 
 impl Problem {
-    /// The same problem once more. The error comes where memory is wanted and not there.
+    /// The same problem once more. The only error is out of memory.
     pub fn copied(&self, alloc: Global) -> Result<Problem, OutOfMemory>
         ensures { IfOk result (λ copy. copy ≡ self.now) }
     {
@@ -58,7 +58,7 @@ fn copied_sizes(sizes: &[u8]) -> ArrayVec<u8, 15>
     }
 }
 
-// The table of names, no two of which are alike, once more.
+// The table of names, no two of which are the same, once more.
 fn copied_names(
     alloc: Global,
     names: &IndexMap<Name, Subgroup>,

@@ -18,7 +18,7 @@ pub enum Needed {
 /// What is wrong with a line.
 #[derive(Clone, Copy, Debug, PartialEq, Eq)]
 pub enum SourceFault {
-    /// No word of a statement, no name, a token too many, or none where one is needed.
+    /// No keyword of a statement, no name, a token too many, or none where one is needed.
     BadWord,
     /// No number of 64 bits, or a version other than 2.
     BadNumber,

@@ -11,7 +11,7 @@ use df_group::{Elem, Shape};
 use df_io::Tokens;
 use std::alloc::Global;
 
-/// The elements that are left of a line.
+/// The elements of the rest of a line.
 #[tactic(auto, unfolding(crate::specs::Values::elements_from))]
 pub(crate) fn elements(
     alloc: Global,

@@ -10,7 +10,7 @@ use arrayvec::ArrayVec;
 use df_group::Shape;
 use df_io::Tokens;
 
-/// The group of the factors that are left of a line.
+/// The group of the factors of the rest of a line.
 pub(crate) fn group(tokens: &mut Tokens<'_>) -> Result<Shape, SourceFault>
     ensures { MatchResult result (λ shape. factors_from [] (left tokens.old) ≡ Ok shape) (λ fault. factors_from [] (left tokens.old) ≡ Err fault) }
 {

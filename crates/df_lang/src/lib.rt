@@ -13,6 +13,7 @@ mod elements;
 mod fault;
 mod generators;
 mod groups;
+mod keywords;
 mod lookups;
 mod multipliers;
 mod names;
@@ -33,7 +34,6 @@ mod statements;
 mod targets;
 mod texts;
 mod tokens;
-mod words;
 
 pub use canonical::{canonical_lines_are_short, line_count, print};
 pub use fault::{Needed, ParseError, SourceError, SourceFault};
@@ -46,5 +46,5 @@ pub use sources::parse;
 pub use targets::target;
 pub use texts::{block_text_is_short, point_text_is_short, put_block, put_point};
 
-/// Want of memory.
+/// Out of memory.
 pub type OutOfMemory = std::alloc::AllocError;

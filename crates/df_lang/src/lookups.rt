@@ -41,7 +41,7 @@ pub(crate) fn new_name(names: &IndexMap<Name, Subgroup>, token: &[u8]) -> Result
     Ok(name(token))
 }
 
-/// The subgroup that a subgroup word names.
+/// The subgroup that a subgroup name names.
 #[tactic(auto, unfolding(crate::specs::Values::which_of))]
 pub(crate) fn which(names: &IndexMap<Name, Subgroup>, token: &[u8]) -> Result<Which, SourceFault>
     requires short { All (λ (n : Named). length n.0 ≤ 16) (map named names.now.entries) }

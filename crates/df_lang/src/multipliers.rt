@@ -1,4 +1,4 @@
-// Multipliers, reduced and each kept once.
+// Multipliers, reduced, each once.
 ghost use Rattle.std.specs.Prelude.{◌≡◌, ◌≤◌, [], Ok, Err, MatchResult};
 ghost use Rattle.df_io.specs.Lines.{left};
 ghost use Rattle.df_lists.specs.NumberSets.{has_member};
@@ -11,7 +11,7 @@ use arrayvec::ArrayVec;
 use df_group::Shape;
 use df_io::Tokens;
 
-/// The multipliers that are left of a line.
+/// The multipliers of the rest of a line.
 #[tactic(auto, unfolding(crate::specs::Values::mults_from))]
 pub(crate) fn multipliers(
     shape: &Shape,

@@ -1,4 +1,4 @@
-// The parts of a problem.
+// The pieces of a problem.
 use arrayvec::ArrayVec;
 use df_subsets::Block;
 
@@ -19,7 +19,7 @@ pub enum Which {
 /// How a block is developed.
 #[derive(Clone, Copy, Debug, PartialEq, Eq)]
 pub enum Kind {
-    /// By each element of the group, repeats kept.
+    /// By each element of the group, with repeats.
     Base,
     /// To its distinct translates.
     Short,
@@ -43,9 +43,9 @@ pub struct Inside {
     pub target: u32,
 }
 
-/// The word with which a statement begins.
+/// The keyword with which a statement begins.
 #[derive(Clone, Copy, Debug, PartialEq, Eq)]
-pub(crate) enum Word {
+pub(crate) enum Keyword {
     Group,
     Fixed,
     Subgroup,

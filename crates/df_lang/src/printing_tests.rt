@@ -85,7 +85,7 @@ fn nothing_is_printed_of_what_is_not_stated(rt: HostRuntime) -> Result<(), Fail>
     Ok(())
 }
 
-// The text of a point and a block behind a word.
+// The text of a point and a block after a keyword.
 fn put(alloc: Global, source: &[u8], points: &[Point]) -> Option<LineBuf> {
     if points.len() != 3 {
         return None;

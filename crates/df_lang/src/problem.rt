@@ -101,7 +101,7 @@ impl Problem {
         self.shape.order() + self.fixed
     }
 
-    /// The subgroup that a subgroup word names. Condition: the number of a named one is below the number of names.
+    /// The subgroup that a subgroup name names. Condition: the number of a named one is below the number of names.
     pub fn subgroup(&self, which: Which) -> Subgroup
         requires { IsWord self.now.names which }
         ensures members { result ≡ subgroup_at self.now which }

@@ -6,47 +6,47 @@ ghost use Rattle.df_io.specs.Joined.{spaced};
 ghost use Rattle.df_group.specs.Elements.{order_of};
 ghost use Rattle.df_group.specs.Subgroups.{IsSubgroup};
 ghost use Rattle.df_lang.specs.Canonical.{element_text, which_text, number_tokens, subgroup_tokens, block_tokens, member_tokens};
-ghost use Rattle.df_lang.specs.Separated.{behind};
+ghost use Rattle.df_lang.specs.Separated.{each_after};
 
 use crate::parts::{Inside, Kind, Member, Which};
 use crate::problem::Problem;
-use crate::texts::{put_element, put_numbers_behind, put_points_behind};
+use crate::texts::{put_element, put_numbers_after, put_points_after};
 use df_group::{Elem, Shape, Subgroup};
 use df_io::{LineBuf, put_number, put_text};
 use df_subsets::Block;
 
-/// Appends a word and a number.
-pub(crate) fn put_number_statement(buf: &mut LineBuf, word: &[u8], number: u64)
-    requires { array_vec_len buf.old + length (spaced (number_tokens word.now number)) ≤ 1024 }
-    ensures { buf.new.items ≡ buf.old.items ++ spaced (number_tokens word.now number) }
+/// Appends a keyword and a number.
+pub(crate) fn put_number_statement(buf: &mut LineBuf, keyword: &[u8], number: u64)
+    requires { array_vec_len buf.old + length (spaced (number_tokens keyword.now number)) ≤ 1024 }
+    ensures { buf.new.items ≡ buf.old.items ++ spaced (number_tokens keyword.now number) }
 {
-    put_text(buf, word);
+    put_text(buf, keyword);
     buf.push(b' ');
     put_number(buf, number);
 }
 
-/// Appends a word and numbers.
-pub(crate) fn put_numbers_statement(buf: &mut LineBuf, word: &[u8], numbers: &[u16])
-    requires { array_vec_len buf.old + length (spaced (word.now ∷ map decimal numbers.now)) ≤ 1024 }
-    ensures { buf.new.items ≡ buf.old.items ++ spaced (word.now ∷ map decimal numbers.now) }
+/// Appends a keyword and numbers.
+pub(crate) fn put_numbers_statement(buf: &mut LineBuf, keyword: &[u8], numbers: &[u16])
+    requires { array_vec_len buf.old + length (spaced (keyword.now ∷ map decimal numbers.now)) ≤ 1024 }
+    ensures { buf.new.items ≡ buf.old.items ++ spaced (keyword.now ∷ map decimal numbers.now) }
 {
-    put_text(buf, word);
-    put_numbers_behind(buf, b' ', numbers);
+    put_text(buf, keyword);
+    put_numbers_after(buf, b' ', numbers);
 }
 
-/// Appends a word and sizes.
-pub(crate) fn put_sizes_statement(buf: &mut LineBuf, word: &[u8], sizes: &[u8])
-    requires { array_vec_len buf.old + length (spaced (word.now ∷ map decimal sizes.now)) ≤ 1024 }
-    ensures { buf.new.items ≡ buf.old.items ++ spaced (word.now ∷ map decimal sizes.now) }
+/// Appends a keyword and sizes.
+pub(crate) fn put_sizes_statement(buf: &mut LineBuf, keyword: &[u8], sizes: &[u8])
+    requires { array_vec_len buf.old + length (spaced (keyword.now ∷ map decimal sizes.now)) ≤ 1024 }
+    ensures { buf.new.items ≡ buf.old.items ++ spaced (keyword.now ∷ map decimal sizes.now) }
 {
-    put_text(buf, word);
-    put_sizes_behind(buf, sizes);
+    put_text(buf, keyword);
+    put_sizes_after(buf, sizes);
 }
 
-// Appends the sizes, each behind a space.
-fn put_sizes_behind(buf: &mut LineBuf, sizes: &[u8])
-    requires { array_vec_len buf.old + length (behind 32 (map decimal sizes.now)) ≤ 1024 }
-    ensures { buf.new.items ≡ buf.old.items ++ behind 32 (map decimal sizes.now) }
+// Appends the sizes, each after a space.
+fn put_sizes_after(buf: &mut LineBuf, sizes: &[u8])
+    requires { array_vec_len buf.old + length (each_after 32 (map decimal sizes.now)) ≤ 1024 }
+    ensures { buf.new.items ≡ buf.old.items ++ each_after 32 (map decimal sizes.now) }
 {
     for size in sizes {
         buf.push(b' ');
@@ -54,13 +54,18 @@ fn put_sizes_behind(buf: &mut LineBuf, sizes: &[u8])
     }
 }
 
-/// Appends a word and the points of a block.
-pub(crate) fn put_block_statement(buf: &mut LineBuf, word: &[u8], problem: &Problem, block: &Block)
-    requires { array_vec_len buf.old + length (spaced (block_tokens problem.now.group word.now block.now)) ≤ 1024 }
-    ensures { buf.new.items ≡ buf.old.items ++ spaced (block_tokens problem.now.group word.now block.now) }
+/// Appends a keyword and the points of a block.
+pub(crate) fn put_block_statement(
+    buf: &mut LineBuf,
+    keyword: &[u8],
+    problem: &Problem,
+    block: &Block,
+)
+    requires { array_vec_len buf.old + length (spaced (block_tokens problem.now.group keyword.now block.now)) ≤ 1024 }
+    ensures { buf.new.items ≡ buf.old.items ++ spaced (block_tokens problem.now.group keyword.now block.now) }
 {
-    put_text(buf, word);
-    put_points_behind(buf, problem, block.points().as_slice());
+    put_text(buf, keyword);
+    put_points_after(buf, problem, block.points().as_slice());
 }
 
 /// Appends a name and the canonical generators of its subgroup.
@@ -82,14 +87,14 @@ fn put_subgroup_statement(buf: &mut LineBuf, shape: &Shape, name: &[u8], element
 {
     put_text(buf, b"subgroup ");
     put_text(buf, name);
-    put_elements_behind(buf, shape, elements);
+    put_elements_after(buf, shape, elements);
 }
 
-// Appends elements below the order, each behind a space.
-fn put_elements_behind(buf: &mut LineBuf, shape: &Shape, elements: &[Elem])
+// Appends elements below the order, each after a space.
+fn put_elements_after(buf: &mut LineBuf, shape: &Shape, elements: &[Elem])
     requires elements { All (λ e. e < order_of shape.now) elements.now }
-    requires room { array_vec_len buf.old + length (behind 32 (map (element_text shape.now) elements.now)) ≤ 1024 }
-    ensures { buf.new.items ≡ buf.old.items ++ behind 32 (map (element_text shape.now) elements.now) }
+    requires room { array_vec_len buf.old + length (each_after 32 (map (element_text shape.now) elements.now)) ≤ 1024 }
+    ensures { buf.new.items ≡ buf.old.items ++ each_after 32 (map (element_text shape.now) elements.now) }
 {
     for e in elements {
         buf.push(b' ');
@@ -128,7 +133,7 @@ pub(crate) fn put_inside(buf: &mut LineBuf, problem: &Problem, inside: Inside)
     put_number(buf, u64::from(inside.target));
 }
 
-// Appends the subgroup word.
+// Appends the subgroup name.
 fn put_which(buf: &mut LineBuf, problem: &Problem, which: Which)
     requires { array_vec_len buf.old + length (which_text problem.now.names which) ≤ 1024 }
     ensures { buf.new.items ≡ buf.old.items ++ which_text problem.now.names which }

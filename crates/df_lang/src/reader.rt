@@ -2,7 +2,7 @@
 //
 // A source is read once, from its first byte to its last: a line is found, its tokens are taken one by one, and the draft of the problem takes
 // what they state, by the rules of the statement that its first token names. Each rule is looked at in the order of the definition, so the first
-// that is broken is told, with the number of the line. The draft has the definition's own shape, each piece stated or not, so the lines above
+// that is broken is reported, with the number of the line. The draft has the definition's own shape, each piece stated or not, so the lines above
 // that of the group go the same way as those below it. Nothing of the source is copied but names; a line costs time in its length, and the
 // tables of names and generators what df_group and indexmap take for them.
 ghost use Rattle.std.specs.Prelude.{◌≡◌, ◌==◌, IfOk};
@@ -16,9 +16,9 @@ ghost use Rattle.df_lang.specs.Statements.{meaning, statement_line, first_line, 
 
 use crate::draft::Draft;
 use crate::fault::{ParseError, SourceError, SourceFault, Stop};
-use crate::parts::{Kind, Word};
+use crate::keywords::keyword;
+use crate::parts::{Keyword, Kind};
 use crate::tokens::one_number;
-use crate::words::word;
 use df_io::{Lines, Tokens};
 use indexmap::IndexMap;
 use std::alloc::Global;
@@ -97,33 +97,38 @@ impl Draft {
     ) -> Result<(), Stop>
         ensures { GoesOn (statement_line (above self.old) first.now (left tokens.old)) (above self.new) result }
     {
-        match word(first) {
-            Some(word) => self.statement(alloc, word, tokens),
+        match keyword(first) {
+            Some(keyword) => self.statement(alloc, keyword, tokens),
             None => Err(Stop::Fault(SourceFault::BadWord)),
         }
     }
 
     #[tactic(auto, unfolding(crate::specs::Statements::meaning))]
-    fn statement(&mut self, alloc: Global, word: Word, tokens: &mut Tokens<'_>) -> Result<(), Stop>
-        ensures { GoesOn (meaning (above self.old) word (left tokens.old)) (above self.new) result }
+    fn statement(
+        &mut self,
+        alloc: Global,
+        keyword: Keyword,
+        tokens: &mut Tokens<'_>,
+    ) -> Result<(), Stop>
+        ensures { GoesOn (meaning (above self.old) keyword (left tokens.old)) (above self.new) result }
     {
-        match word {
-            Word::Group => Ok(self.group(tokens)?),
-            Word::Fixed => Ok(self.fixed(tokens)?),
-            Word::Subgroup => self.subgroup(alloc, tokens),
-            Word::Shift => Ok(self.shift(tokens)?),
-            Word::Mult => Ok(self.mult(tokens)?),
-            Word::Size => Ok(self.size(tokens)?),
-            Word::Lambda => Ok(self.lambda(tokens)?),
-            Word::Inside => Ok(self.inside(tokens)?),
-            Word::Hole => Ok(self.hole(tokens)?),
-            Word::Base => self.member(Kind::Base, tokens),
-            Word::Short => self.member(Kind::Short, tokens),
-            Word::Require => {
+        match keyword {
+            Keyword::Group => Ok(self.group(tokens)?),
+            Keyword::Fixed => Ok(self.fixed(tokens)?),
+            Keyword::Subgroup => self.subgroup(alloc, tokens),
+            Keyword::Shift => Ok(self.shift(tokens)?),
+            Keyword::Mult => Ok(self.mult(tokens)?),
+            Keyword::Size => Ok(self.size(tokens)?),
+            Keyword::Lambda => Ok(self.lambda(tokens)?),
+            Keyword::Inside => Ok(self.inside(tokens)?),
+            Keyword::Hole => Ok(self.hole(tokens)?),
+            Keyword::Base => self.member(Kind::Base, tokens),
+            Keyword::Short => self.member(Kind::Short, tokens),
+            Keyword::Require => {
                 self.second_version()?;
                 self.require(tokens)
             }
-            Word::Forbid => {
+            Keyword::Forbid => {
                 self.second_version()?;
                 self.forbid(tokens)
             }

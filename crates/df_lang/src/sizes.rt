@@ -10,7 +10,7 @@ use arrayvec::ArrayVec;
 use df_io::Tokens;
 use df_subsets::{Block, Point};
 
-/// The set of the sizes that are left of a line, each from 2 to `most`: one in version 1, at least one in version 2.
+/// The set of the sizes of the rest of a line, each from 2 to `most`: one in version 1, at least one in version 2.
 #[tactic(auto, unfolding(crate::specs::Values::sizes_read))]
 pub(crate) fn sizes(version: u8, most: u64, tokens: &mut Tokens<'_>) -> Result<Block, SourceFault>
     requires { most ≤ 16 }

@@ -13,7 +13,7 @@ use arrayvec::ArrayVec;
 use std::alloc::Global;
 
 /// The problem that a source states, or the first line that breaks a rule: its number, from 1, and the first rule that it breaks.
-/// What the whole source has to state and doesn't is told at line 0. A source of up to 4,294,967,296 bytes runs out of nothing but memory.
+/// What the whole source has to state and doesn't is reported at line 0. A source of up to 4,294,967,296 bytes runs out of nothing but memory.
 pub fn parse(alloc: Global, source: &[u8]) -> Result<Problem, ParseError>
     ensures { Parses source.now result }
 {

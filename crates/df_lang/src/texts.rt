@@ -4,7 +4,7 @@ ghost use Rattle.std.specs.Fmt.{decimal};
 ghost use Rattle.arrayvec.specs.ArrayVec.{array_vec_len};
 ghost use Rattle.df_group.specs.Elements.{order_of};
 ghost use Rattle.df_lang.specs.Canonical.{element_text, point_text, block_text};
-ghost use Rattle.df_lang.specs.Separated.{behind};
+ghost use Rattle.df_lang.specs.Separated.{each_after};
 
 use crate::problem::Problem;
 use df_group::{Elem, Shape};
@@ -40,7 +40,7 @@ pub fn put_block(buf: &mut LineBuf, problem: &Problem, block: &Block)
         return;
     }
     put_point(buf, problem, points[0]);
-    put_points_behind(buf, problem, &points[1..]);
+    put_points_after(buf, problem, &points[1..]);
 }
 
 /// A point's text has at most 28 bytes. The call reads and changes nothing.
@@ -59,11 +59,11 @@ pub fn block_text_is_short(problem: &Problem, block: &Block)
     let _points = block.points();
 }
 
-/// Appends the points, each behind a space.
-pub(crate) fn put_points_behind(buf: &mut LineBuf, problem: &Problem, points: &[Point])
-    requires { array_vec_len buf.old + length (behind 32 (map (point_text problem.now.group) points.now)) ≤ 1024 }
-    ensures text { buf.new.items ≡ buf.old.items ++ behind 32 (map (point_text problem.now.group) points.now) }
-    ensures len { array_vec_len buf.new ≡ array_vec_len buf.old + length (behind 32 (map (point_text problem.now.group) points.now)) }
+/// Appends the points, each after a space.
+pub(crate) fn put_points_after(buf: &mut LineBuf, problem: &Problem, points: &[Point])
+    requires { array_vec_len buf.old + length (each_after 32 (map (point_text problem.now.group) points.now)) ≤ 1024 }
+    ensures text { buf.new.items ≡ buf.old.items ++ each_after 32 (map (point_text problem.now.group) points.now) }
+    ensures len { array_vec_len buf.new ≡ array_vec_len buf.old + length (each_after 32 (map (point_text problem.now.group) points.now)) }
 {
     for p in points {
         buf.push(b' ');
@@ -84,14 +84,14 @@ pub(crate) fn put_element(buf: &mut LineBuf, shape: &Shape, e: Elem)
         return;
     }
     put_number(buf, u64::from(residues[0]));
-    put_numbers_behind(buf, b',', &residues[1..]);
+    put_numbers_after(buf, b',', &residues[1..]);
 }
 
-/// Appends the numbers, each behind this byte.
-pub(crate) fn put_numbers_behind(buf: &mut LineBuf, byte: u8, numbers: &[u16])
-    requires { array_vec_len buf.old + length (behind byte (map decimal numbers.now)) ≤ 1024 }
-    ensures text { buf.new.items ≡ buf.old.items ++ behind byte (map decimal numbers.now) }
-    ensures len { array_vec_len buf.new ≡ array_vec_len buf.old + length (behind byte (map decimal numbers.now)) }
+/// Appends the numbers, each after this byte.
+pub(crate) fn put_numbers_after(buf: &mut LineBuf, byte: u8, numbers: &[u16])
+    requires { array_vec_len buf.old + length (each_after byte (map decimal numbers.now)) ≤ 1024 }
+    ensures text { buf.new.items ≡ buf.old.items ++ each_after byte (map decimal numbers.now) }
+    ensures len { array_vec_len buf.new ≡ array_vec_len buf.old + length (each_after byte (map decimal numbers.now)) }
 {
     for number in numbers {
         buf.push(byte);

@@ -17,8 +17,12 @@ pub use statuses::Status;
 pub use tasks::SOURCE_BYTES;
 
 #[cfg(test)]
+mod design_tests;
+#[cfg(test)]
 mod matrix_tests;
 #[cfg(test)]
 mod orbit_tests;
+#[cfg(test)]
+mod plain_designs;
 #[cfg(test)]
 mod tests;

@@ -2,8 +2,8 @@ use Rattle.std.proofs.Common.{◌≡◌, ◌++◌, ◌-◌, ◌<◌, decimal, le
 use Rattle.std.specs.List.{join_with_byte}
 use Rattle.std.proofs.lemmas.List.{nil_from_length}
 use Rattle.df_lang.specs.Canonical.{element_text}
-use Rattle.df_lang.specs.Separated.{behind}
-use Rattle.df_lang.proofs.Behind.{join_first}
+use Rattle.df_lang.specs.Separated.{each_after}
+use Rattle.df_lang.proofs.EachAfter.{join_first}
 use Rattle.df_lang.proofs.texts.put_element.Goals as goal
 
 whole : goal.returns-clause-text
@@ -12,9 +12,9 @@ whole c =
     let rs = c.as_slice-residues.result.now in
     let some : 0 < length rs = grind (arith, tests) in
     let split = join_first 44 decimal rs 0 some in
-    c.put_numbers_behind.ensures.text
-    ∙ ap (λ l. l ++ behind 44 (map decimal (take (length rs - 1) (drop 1 rs)))) (c.put_number.ensures.text ∙ ap (λ n. c.args.buf.now.items ++ decimal n) c.from.ensures)
-    ∙ append_assoc c.args.buf.now.items (decimal (get_or rs 0 0)) (behind 44 (map decimal (take (length rs - 1) (drop 1 rs))))
+    c.put_numbers_after.ensures.text
+    ∙ ap (λ l. l ++ each_after 44 (map decimal (take (length rs - 1) (drop 1 rs)))) (c.put_number.ensures.text ∙ ap (λ n. c.args.buf.now.items ++ decimal n) c.from.ensures)
+    ∙ append_assoc c.args.buf.now.items (decimal (get_or rs 0 0)) (each_after 44 (map decimal (take (length rs - 1) (drop 1 rs))))
     ∙ ap (λ l. c.args.buf.now.items ++ l) (sym split ∙ ap (λ l. join_with_byte 44 (map decimal l)) (c.as_slice-residues.ensures.value ∙ c.coords-residues.ensures.residues))
 
 pub returns-then-is_empty-clause-text : goal.returns-then-is_empty-clause-text
@@ -33,16 +33,16 @@ unfolding element_text
 put_number-requires c =
     let rs = c.as_slice-residues.result.now in
     let some : 0 < length rs = grind (arith, tests) in
-    let split = ap length (join_first 44 decimal rs 0 some) ∙ length-append (decimal (get_or rs 0 0)) (behind 44 (map decimal (take (length rs - 1) (drop 1 rs)))) in
+    let split = ap length (join_first 44 decimal rs 0 some) ∙ length-append (decimal (get_or rs 0 0)) (each_after 44 (map decimal (take (length rs - 1) (drop 1 rs)))) in
     let is = ap (λ l. length (join_with_byte 44 (map decimal l))) (c.as_slice-residues.ensures.value ∙ c.coords-residues.ensures.residues) in
     omega (arith, split, is, c.requires.room, ap (λ n. length (decimal n)) c.from.ensures)
 
-pub put_numbers_behind-requires : goal.put_numbers_behind-requires
+pub put_numbers_after-requires : goal.put_numbers_after-requires
 unfolding element_text
-put_numbers_behind-requires c =
+put_numbers_after-requires c =
     let rs = c.as_slice-residues.result.now in
     let some : 0 < length rs = grind (arith, tests) in
-    let split = ap length (join_first 44 decimal rs 0 some) ∙ length-append (decimal (get_or rs 0 0)) (behind 44 (map decimal (take (length rs - 1) (drop 1 rs)))) in
+    let split = ap length (join_first 44 decimal rs 0 some) ∙ length-append (decimal (get_or rs 0 0)) (each_after 44 (map decimal (take (length rs - 1) (drop 1 rs)))) in
     let is = ap (λ l. length (join_with_byte 44 (map decimal l))) (c.as_slice-residues.ensures.value ∙ c.coords-residues.ensures.residues) in
     omega (arith, split, is, c.requires.room, ap (λ n. length (decimal n)) c.from.ensures, c.put_number.ensures.len)
 

@@ -1,7 +1,7 @@
 use Rattle.std.proofs.Common.{length, ap, arith}
 use Rattle.df_lang.specs.Canonical.{element_text}
-use Rattle.df_lang.proofs.Behind.{room_next}
-use Rattle.df_lang.proofs.put.put_elements_behind.Goals as goal
+use Rattle.df_lang.proofs.EachAfter.{room_next}
+use Rattle.df_lang.proofs.put.put_elements_after.Goals as goal
 
 pub push-requires : goal.push-requires
 push-requires c =

@@ -1,6 +1,6 @@
 use Rattle.std.proofs.Common.{decimal, length, ap, arith}
-use Rattle.df_lang.proofs.Behind.{room_next}
-use Rattle.df_lang.proofs.texts.put_numbers_behind.Goals as goal
+use Rattle.df_lang.proofs.EachAfter.{room_next}
+use Rattle.df_lang.proofs.texts.put_numbers_after.Goals as goal
 
 pub push-requires : goal.push-requires
 push-requires c =

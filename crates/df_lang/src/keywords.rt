@@ -1,39 +1,39 @@
-// The words with which statements begin.
+// The keywords with which statements begin.
 ghost use Rattle.std.specs.Prelude.{◌≡◌};
-ghost use Rattle.df_lang.specs.Statements.{word_of};
+ghost use Rattle.df_lang.specs.Statements.{keyword_of};
 
-use crate::parts::Word;
+use crate::parts::Keyword;
 
 /// The statement that begins with this token.
-pub(crate) fn word(token: &[u8]) -> Option<Word>
-    ensures { result ≡ word_of token.now }
+pub(crate) fn keyword(token: &[u8]) -> Option<Keyword>
+    ensures { result ≡ keyword_of token.now }
 {
     if token == b"group".as_slice() {
-        Some(Word::Group)
+        Some(Keyword::Group)
     } else if token == b"fixed".as_slice() {
-        Some(Word::Fixed)
+        Some(Keyword::Fixed)
     } else if token == b"subgroup".as_slice() {
-        Some(Word::Subgroup)
+        Some(Keyword::Subgroup)
     } else if token == b"shift".as_slice() {
-        Some(Word::Shift)
+        Some(Keyword::Shift)
     } else if token == b"mult".as_slice() {
-        Some(Word::Mult)
+        Some(Keyword::Mult)
     } else if token == b"k".as_slice() {
-        Some(Word::Size)
+        Some(Keyword::Size)
     } else if token == b"lambda".as_slice() {
-        Some(Word::Lambda)
+        Some(Keyword::Lambda)
     } else if token == b"inside".as_slice() {
-        Some(Word::Inside)
+        Some(Keyword::Inside)
     } else if token == b"hole".as_slice() {
-        Some(Word::Hole)
+        Some(Keyword::Hole)
     } else if token == b"base".as_slice() {
-        Some(Word::Base)
+        Some(Keyword::Base)
     } else if token == b"short".as_slice() {
-        Some(Word::Short)
+        Some(Keyword::Short)
     } else if token == b"require".as_slice() {
-        Some(Word::Require)
+        Some(Keyword::Require)
     } else if token == b"forbid".as_slice() {
-        Some(Word::Forbid)
+        Some(Keyword::Forbid)
     } else {
         None
     }
