@@ -1,3 +1,2 @@
-pub mod Columns
+pub mod Cells
 pub mod Numbers
-pub mod Representatives
