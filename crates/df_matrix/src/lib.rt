@@ -1,5 +1,5 @@
 //! The orbit matrix of a problem: its rows, orbits, entries and columns, and the system that they make.
-//! It stands on df_orbits for classes by marks, on df_system for sparse columns, and on df_kramer_mesner for what an orbit system is.
+//! It stands on df_orbits for orbits by marks, on df_system for sparse columns, and on df_kramer_mesner for what an orbit system is.
 //! The crates above see an `OrbitMatrix` as its problem: each call answers a word of df_kramer_mesner's specs/OrbitSystems.antt on that problem.
 #![tactic(auto)]
 

@@ -1,4 +1,4 @@
 pub mod Endings
 pub mod Headline
 pub mod EntryLimits
-pub mod Sizes
+pub mod BlockLimits

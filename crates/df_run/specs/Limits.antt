@@ -1,8 +1,8 @@
 -- The limit that a problem is above, if any.
 use Rattle.std.specs.Prelude.{◌*◌, Option, Some, None}
-use Rattle.std.specs.Option.{option_and_then}
+use Rattle.std.specs.Option.{option_map, option_and_then}
 use Rattle.df_lang.specs.Problems.{Stated}
-use Rattle.df_matrix.specs.Limits.{subset_limit, limit_passed}
+use Rattle.df_matrix.specs.Limits.{subset_limit, passed_by, limit_passed}
 use Rattle.df_matrix.specs.declared.matrix.MatrixError.{MatrixError}
 use Rattle.df_matrix.specs.declared.matrix.MatrixError.TheVariants as matrix
 use Rattle.df_orbits.specs.declared.orbits.OrbitError.{OrbitError}
@@ -28,7 +28,7 @@ limit_of matrix.OutOfMemory = None
 
 -- the limit on blocks that a problem is above
 abbrev pub subsets_limit : Stated → Option Limit
-subsets_limit s = option_and_then limit_of (subset_limit s)
+subsets_limit s = option_and_then limit_of (option_map passed_by (subset_limit s))
 
 -- the first limit that the orbit matrix of a problem is above: that on blocks, on columns, or on entries
 abbrev pub matrix_limit : Stated → Option Limit

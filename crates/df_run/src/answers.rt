@@ -78,7 +78,7 @@ fn answer_orbits<O: Sink>(alloc: Global, problem: &Problem, out: &mut O) -> Stat
     ensures writes { O.faults out.old ≤ O.faults out.new }
 {
     match orbits_of_problem(alloc, problem) {
-        Ok((pairs, blocks)) => ended(Status::Done, write_orbits(problem, &pairs, &blocks, out)),
+        Ok(orbits) => ended(Status::Done, write_orbits(&orbits, out)),
         Err(LimitError::Above(limit)) => ended(Status::BadInput, write_limit(limit, out)),
         Err(LimitError::OutOfMemory) => Status::OutOfMemory,
     }

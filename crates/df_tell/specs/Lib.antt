@@ -1,4 +1,5 @@
 pub mod Canonical
+pub mod Cells
 pub mod Counts
 pub mod Limits
 pub mod Matrix

@@ -1,11 +1,10 @@
 -- The text of the orbit matrix of a problem.
-use Rattle.std.specs.Prelude.{ℕ, nat_lt, List, [], ◌∷◌, ◌++◌, codes, length, slice_index, slice_index_or, if◌then◌else◌}
+use Rattle.std.specs.Prelude.{ℕ, nat_lt, List, [], ◌∷◌, ◌++◌, codes, length, slice_index, slice_index_or, Option, Some, None, if◌then◌else◌}
 use Rattle.std.specs.List.{flat_map, range_with_len}
 use Rattle.std.specs.Fmt.{decimal}
-use Rattle.df_subsets.specs.Subsets.{place_of}
 use Rattle.df_lang.specs.Problems.{Stated}
 use Rattle.df_lang.specs.Canonical.{block_text}
-use Rattle.df_kramer_mesner.specs.OrbitSystems.{pairs_of, needed_of, orbits_of, columns_of, entries_of, targets_of, is_kept}
+use Rattle.df_kramer_mesner.specs.OrbitSystems.{pairs_of, needed_of, orbits_of, columns_of, entries_of, targets_of, column_number}
 
 -- how many rows and orbits there are, and how many of the orbits are kept
 unfoldable pub counts_line : ℕ → ℕ → ℕ → List ℕ
@@ -41,8 +40,12 @@ entry_text e = 32 ∷ decimal e
 unfoldable pub column_text : ℕ → List ℕ
 column_text column = (codes " column " ++ decimal column) ++ 10 ∷ []
 
+abbrev pub end_of : Option ℕ → List ℕ
+end_of (Some column) = column_text column
+end_of None = codes " dropped\n"
+
 abbrev pub end_text : Stated → List ℕ → List ℕ
-end_text s b = if is_kept s b then column_text (place_of b (columns_of s)) else codes " dropped\n"
+end_text s b = end_of (column_number s b)
 
 -- the line of an orbit
 unfoldable pub orbit_line : Stated → List ℕ → List ℕ

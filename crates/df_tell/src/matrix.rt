@@ -1,15 +1,17 @@
 // The orbit matrix of a problem.
-ghost use Rattle.std.specs.Prelude.{◌≡◌, ◌≤◌, ◌<◌, ◌∷◌, [], codes, length, slice_index, slice_index_or};
+ghost use Rattle.std.specs.Prelude.{◌≡◌, ◌≤◌, ◌<◌, ◌∷◌, [], codes, length, drop};
 ghost use Rattle.std.specs.List.{flat_map};
 ghost use Rattle.df_io.specs.Writing.{Writes};
-ghost use Rattle.df_kramer_mesner.specs.OrbitSystems.{orbits_of, columns_of, entries_of, targets_of};
+ghost use Rattle.df_kramer_mesner.specs.OrbitSystems.{orbits_of, columns_of, entries_of, targets_of, orbit_at};
+ghost use Rattle.df_tell.specs.Cells.{entry_ahead, next_after};
 ghost use Rattle.df_tell.specs.Matrix.{counts_line, row_line, row_at, rows_text, orbit_head, entry_text, column_text, end_text, orbit_line, orbit_lines, matrix_text};
 
 use df_io::{LineBuf, Sink, WriteFault, put_number, put_text, write_all};
 use df_kramer_mesner::rows_are_pairs_and_needed;
 use df_lang::{Problem, block_text_is_short, point_text_is_short, put_block, put_point};
 use df_matrix::OrbitMatrix;
-use df_subsets::{Block, Point, blocks_are_ordered, candidates_are_all};
+use df_subsets::{Block, Point};
+use df_system::Cell;
 
 /// Writes an orbit matrix: how large it is, its rows, and its orbits with their entries.
 pub fn write_matrix<K: Sink>(matrix: &OrbitMatrix, out: &mut K) -> Result<(), WriteFault>
@@ -59,7 +61,7 @@ fn write_orbit<K: Sink>(
     out: &mut K,
 ) -> Result<(), WriteFault>
     requires { orbit < length (orbits_of matrix.now) }
-    ensures { Writes K.written K.faults out.old out.new (orbit_line matrix.now (slice_index_or (orbits_of matrix.now) orbit [])) result }
+    ensures { Writes K.written K.faults out.old out.new (orbit_line matrix.now (orbit_at matrix.now orbit)) result }
 {
     fill_head(line, matrix, orbit);
     write_all(out, line.as_slice())?;
@@ -68,7 +70,7 @@ fn write_orbit<K: Sink>(
     write_all(out, line.as_slice())
 }
 
-// Writes the entries of an orbit.
+// Writes the entries of an orbit: one merge of its cells and the rows, since a row that has no cell has entry 0.
 fn write_entries<K: Sink>(
     matrix: &OrbitMatrix,
     orbit: usize,
@@ -76,14 +78,36 @@ fn write_entries<K: Sink>(
     out: &mut K,
 ) -> Result<(), WriteFault>
     requires { orbit < length (orbits_of matrix.now) }
-    ensures { Writes K.written K.faults out.old out.new (flat_map entry_text (entries_of matrix.now (slice_index_or (orbits_of matrix.now) orbit []))) result }
+    ensures { Writes K.written K.faults out.old out.new (flat_map entry_text (entries_of matrix.now (orbit_at matrix.now orbit))) result }
 {
     rows_are_pairs_and_needed();
+    let cells = matrix.orbit_cells(orbit);
+    let mut next = 0;
     for row in 0..matrix.system().rows() {
-        fill_entry(line, matrix, row, orbit);
+        let entry = entry_of_next(cells.as_slice(), next, row);
+        fill_entry(line, entry);
         write_all(out, line.as_slice())?;
+        next = after_entry(next, entry);
     }
     Ok(())
+}
+
+// The entry of a row, where the cells of the rows before it are those below the number `next`.
+fn entry_of_next(cells: &[Cell], next: usize, row: u32) -> u32
+    ensures { result ≡ entry_ahead (drop next cells.now) row }
+{
+    if next < cells.len() && cells[next].row == row {
+        return cells[next].value;
+    }
+    0
+}
+
+// How many cells are of the rows so far: one more where the row has an entry.
+fn after_entry(next: usize, entry: u32) -> usize
+    requires { next < 4294967295 }
+    ensures { result ≡ next_after next entry }
+{
+    if entry > 0 { next + 1 } else { next }
 }
 
 // Fills the buffer with the first line: how many rows and orbits there are, and how many orbits are kept.
@@ -158,7 +182,7 @@ fn fill_block_row(line: &mut LineBuf, problem: &Problem, row: u32, block: &Block
 #[tactic(auto, unfolding(crate::specs::Matrix::orbit_head))]
 fn fill_head(line: &mut LineBuf, matrix: &OrbitMatrix, orbit: usize)
     requires { orbit < length (orbits_of matrix.now) }
-    ensures { line.new.items ≡ orbit_head matrix.now (slice_index_or (orbits_of matrix.now) orbit []) }
+    ensures { line.new.items ≡ orbit_head matrix.now (orbit_at matrix.now orbit) }
 {
     let problem = matrix.problem();
     let block = matrix.orbit_block(orbit);
@@ -169,14 +193,11 @@ fn fill_head(line: &mut LineBuf, matrix: &OrbitMatrix, orbit: usize)
     put_text(line, b" entries");
 }
 
-// Fills the buffer with the text of an entry of an orbit.
+// Fills the buffer with the text of an entry.
 #[tactic(auto, unfolding(crate::specs::Matrix::entry_text), using(crate::proofs::Numbers::number_is_short))]
-fn fill_entry(line: &mut LineBuf, matrix: &OrbitMatrix, row: u32, orbit: usize)
-    requires row { row < length (targets_of matrix.now) }
-    requires orbit { orbit < length (orbits_of matrix.now) }
-    ensures { line.new.items ≡ entry_text (slice_index (entries_of matrix.now (slice_index_or (orbits_of matrix.now) orbit [])) row) }
+fn fill_entry(line: &mut LineBuf, entry: u32)
+    ensures { line.new.items ≡ entry_text entry }
 {
-    let entry = matrix.entry_of_orbit(row, orbit);
     line.clear();
     line.push(b' ');
     put_number(line, u64::from(entry));
@@ -185,10 +206,8 @@ fn fill_entry(line: &mut LineBuf, matrix: &OrbitMatrix, row: u32, orbit: usize)
 // Fills the buffer with the end of the line of an orbit.
 fn fill_end(line: &mut LineBuf, matrix: &OrbitMatrix, orbit: usize)
     requires { orbit < length (orbits_of matrix.now) }
-    ensures { line.new.items ≡ end_text matrix.now (slice_index_or (orbits_of matrix.now) orbit []) }
+    ensures { line.new.items ≡ end_text matrix.now (orbit_at matrix.now orbit) }
 {
-    blocks_are_ordered();
-    candidates_are_all();
     match matrix.kept(orbit) {
         Some(column) => fill_column(line, column),
         None => {

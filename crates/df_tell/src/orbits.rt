@@ -1,32 +1,22 @@
 // The orbits of pairs and of blocks.
 ghost use Rattle.std.specs.Prelude.{◌≡◌, ◌≤◌, ◌<◌, [], length, slice_index_or};
 ghost use Rattle.df_io.specs.Writing.{Writes};
-ghost use Rattle.df_orbits.specs.OrbitClasses.{pair_classes, block_classes};
-ghost use Rattle.df_kramer_mesner.specs.OrbitSystems.{maps_of_problem};
 ghost use Rattle.df_tell.specs.Orbits.{orbit_line, orbit_lines, orbits_text, AreShort};
 
 use crate::counts::fill_count;
 use df_io::{LineBuf, Sink, WriteFault, put_number, put_text, write_all};
-use df_kramer_mesner::numbers_are_few;
-use df_lang::{Problem, block_text_is_short, problems_keep_their_rules, put_block};
+use df_lang::{Problem, block_text_is_short, put_block};
+use df_matrix::ProblemOrbits;
 use df_orbits::Orbits;
 use df_subsets::Block;
 
 /// Writes the orbits of pairs and those of blocks of a problem.
-pub fn write_orbits<K: Sink>(
-    problem: &Problem,
-    pairs: &Orbits,
-    blocks: &Orbits,
-    out: &mut K,
-) -> Result<(), WriteFault>
-    requires pairs { pairs.now ≡ pair_classes (maps_of_problem problem.now) }
-    requires blocks { blocks.now ≡ block_classes (maps_of_problem problem.now) problem.now.sizes }
-    ensures { Writes K.written K.faults out.old out.new (orbits_text problem.now) result }
+pub fn write_orbits<K: Sink>(orbits: &ProblemOrbits, out: &mut K) -> Result<(), WriteFault>
+    ensures { Writes K.written K.faults out.old out.new (orbits_text orbits.now) result }
 {
-    problems_keep_their_rules(problem);
-    numbers_are_few();
-    write_orbit_lines(b"pairs ", b"pair ", problem, pairs, out)?;
-    write_orbit_lines(b"blocks ", b"block ", problem, blocks, out)
+    let problem = orbits.problem();
+    write_orbit_lines(b"pairs ", b"pair ", problem, orbits.pairs(), out)?;
+    write_orbit_lines(b"blocks ", b"block ", problem, orbits.blocks(), out)
 }
 
 // Writes how many orbits there are, and the line of each, with the words for many and for one.
