@@ -1,5 +1,5 @@
 -- The sizes of a problem rise.
-use Rattle.std.proofs.Common.{◌≡◌, ℕ, ◌+◌, List, subst, sym, arith}
+use Rattle.std.proofs.Common.{ℕ, ◌+◌, List, subst, sym, arith}
 use Rattle.std.specs.List.{range_with_len}
 use Rattle.std.specs.List.Sorted.{IsStrictlyIncreasing}
 use Rattle.std.proofs.lemmas.List.Kept.{IsStrictlyIncreasing-filter}

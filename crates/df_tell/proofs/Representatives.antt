@@ -1,5 +1,5 @@
 -- The representatives of the orbits of a problem have at most 16 points.
-use Rattle.std.proofs.Common.{◌≡◌, ℕ, ◌≤◌, List, [], ◌∷◌, map, length, All, refl, sym, ap, subst, inl, inr, arith}
+use Rattle.std.proofs.Common.{◌≡◌, ℕ, List, [], ◌∷◌, map, length, All, refl, sym, ap, subst, inl, inr, arith}
 use Rattle.std.proofs.lemmas.List.Elements.{All-cons, All-nil}
 use Rattle.df_lists.specs.Membership.{In}
 use Rattle.df_orbits.specs.OrbitClasses.{class_size, pair_classes, block_classes, first_members}
