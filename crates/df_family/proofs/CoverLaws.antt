@@ -21,7 +21,7 @@ use Rattle.df_family.specs.Developments.{is_listed, translates_under}
 use Rattle.df_family.specs.Tables.{finite_points}
 use Rattle.df_family.specs.Covers.{coset_points, occurs_at, summand_at}
 use Rattle.df_family.proofs.TranslateLaws.{shifted_finite, shifted_fixed, hit}
-use Rattle.df_family.proofs.ShiftLaws.{cb_sb, length_sb, sb_set, sum_listed, stabilizer_some}
+use Rattle.df_family.proofs.ShiftLaws.{all_pass, cb_sb, one_both, length_sb, sb_set, sum_listed, stabilizer_some}
 
 nothing : (v : Bool) (z : ℕ) → z ≡ 0 → cond v z 0 ≡ 0
 nothing true z h = h
@@ -46,18 +46,10 @@ sb_none : {X : Type 0} (xs : List X) → sb (λ x. 0) xs ≡ 0
 sb_none [] = refl
 sb_none (x ∷ xs) = let ih = sb_none xs in omega arith
 
-all_kept : (xs : List ℕ) → filter (λ g. true) xs ≡ xs
-all_kept [] = refl
-all_kept (x ∷ xs) = ap (λ l. x ∷ l) (all_kept xs)
-
 both_turned : (v w : Bool) (z : ℕ) → cond v (cond w z 0) 0 ≡ cond w (cond v z 0) 0
 both_turned true w z = refl
 both_turned false true z = refl
 both_turned false false z = refl
-
-and_cond : (v w : Bool) → one (v && w) ≡ cond v (one w) 0
-and_cond true w = refl
-and_cond false w = refl
 
 module _ (s : Stated) (is : IsGroup (group_of s.group)) (shifts : List ℕ) (closed : IsClosed s.group shifts) (block : List ℕ) (set : IsSet (point_count s) block) where
   sb_finite : (F : ℕ → ℕ) → sb F (finite_points s block) ≡ total (λ x. cond (has_member block x) (F x) 0) (order_of s.group)
@@ -124,7 +116,7 @@ module _ (s : Stated) (is : IsGroup (group_of s.group)) (shifts : List ℕ) (clo
       ∙ along T p h
       ∙ total_same (λ x. cond (same_coset s.group shifts p x) (T x) 0) (λ x. cond (same_coset s.group shifts p x) (cond (has_member block x) (F x) 0) 0) n (λ x l.
       ap (λ z. cond (same_coset s.group shifts p x) z 0)
-      (and_cond (has_member block x) (has_member block (G.plus x d)) ∙ ap (λ m. cond (has_member block x) m 0) (sym (partners x d (is.within q (G.neg p))))))
+      (one_both (has_member block x) (has_member block (G.plus x d)) ∙ ap (λ m. cond (has_member block x) m 0) (sym (partners x d (is.within q (G.neg p))))))
       ∙ sym (sb_coset F p) ∙ sb_is F (coset_points s shifts block p)
     where
       hits : (g : ℕ) → one (holds (translate s block g) p q) ≡ one (has_member block (minus (group_of s.group) p g) && has_member block ((group_of s.group).plus (minus (group_of s.group) p g) (minus (group_of s.group) q p)))
@@ -195,7 +187,7 @@ module _ (s : Stated) (is : IsGroup (group_of s.group)) (shifts : List ℕ) (clo
 
   -- the translates of a member of the family hold a pair as often as the member adds
   pub member_covers : (k : Kind) (p q : ℕ) → p < q → q < point_count s → cb (λ b. holds b p q) (translates_under s shifts record { kind = k; block = block }) ≡ summand_at s shifts p q k block
-  member_covers kinds.Base p q h l = translates_hold kinds.Base p q ∙ ap (sb (λ g. one (holds (translate s block g) p q))) (all_kept shifts) ∙ covers_occurs p q h l
+  member_covers kinds.Base p q h l = translates_hold kinds.Base p q ∙ ap (sb (λ g. one (holds (translate s block g) p q))) (all_pass (λ g. true) shifts (λ g. refl)) ∙ covers_occurs p q h l
   member_covers kinds.Short p q h l =
       let m = stabilizer_under s shifts block in
       translates_hold kinds.Short p q

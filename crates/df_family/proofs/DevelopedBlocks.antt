@@ -1,13 +1,11 @@
 -- The blocks of a development are blocks of the problem: translates have the points' range and the number of points of their block.
 use Rattle.std.proofs.Common.{◌≡◌, ℕ, ◌≤◌, Bool, true, false, ◌||◌, eqb, List, [], ◌∷◌, map, filter, length, All, refl, sym, ap, ◌∙◌, arith}
-use Rattle.std.specs.List.{range_with_len}
 use Rattle.std.proofs.lemmas.List.Elements.{All-head, All-tail, All-map, All-weaker}
-use Rattle.std.proofs.lemmas.List.Sums.{length-filter}
 use Rattle.std.proofs.lemmas.Bool.{eqb-true}
 use Rattle.df_lists.specs.NumberSets.{has_member, IsSet}
 use Rattle.df_lists.specs.Totals.{total, one}
 use Rattle.df_lists.proofs.TotalLaws.{total_same, total_turn}
-use Rattle.df_lists.proofs.CountLaws.{cb_is, cb_range, has_filter, filter_same}
+use Rattle.df_lists.proofs.SetLaws.{filter_is_set}
 use Rattle.df_group.specs.Elements.{group_of, IsGroup}
 use Rattle.df_group.proofs.ElementLaws.{is_group}
 use Rattle.df_lang.specs.declared.parts.Member.{Member}
@@ -15,18 +13,14 @@ use Rattle.df_lang.specs.Problems.{Stated, IsStated, IsBlock, IsSize, point_coun
 use Rattle.df_family.specs.Translates.{shifted, translate}
 use Rattle.df_family.specs.Developments.{is_listed, translates_under, develop_under}
 use Rattle.df_family.proofs.TranslateLaws.{hit, shifted_within, there_and_back, back_and_there}
+use Rattle.df_family.proofs.ShiftLaws.{length_sb, sb_set}
 use Rattle.df_family.proofs.TableRows.{All-flat_map}
 
--- how many numbers below n a test picks
-length_picked : (t : ℕ → Bool) (n : ℕ) → length (filter t (range_with_len 0 n)) ≡ total (λ i. one (t i)) n
-length_picked t n = length-filter t (range_with_len 0 n) ∙ sym (cb_is t (range_with_len 0 n)) ∙ cb_range t n
-
 length_set : (n : ℕ) (set : List ℕ) → IsSet n set → length set ≡ total (λ i. one (has_member set i)) n
-length_set n set is = ap length is ∙ length_picked (has_member set) n
+length_set n set is = length_sb set ∙ sb_set n set (λ x. 1) is
 
 translate_is_set : (s : Stated) (block : List ℕ) (g : ℕ) → IsSet (point_count s) (translate s block g)
-translate_is_set s block g =
-    filter_same (has_member (map (shifted s g) block)) (has_member (translate s block g)) (point_count s) (λ p h. sym (has_filter (has_member (map (shifted s g) block)) (point_count s) p h))
+translate_is_set s block g = filter_is_set (has_member (map (shifted s g) block)) (point_count s)
 
 module _ (s : Stated) (is : IsGroup (group_of s.group)) where
   pub translate_length : (block : List ℕ) (g : ℕ) → IsSet (point_count s) block → length (translate s block g) ≡ length block

@@ -4,6 +4,7 @@ use Rattle.std.proofs.lemmas.Bool.{cases_lt}
 use Rattle.std.proofs.lemmas.List.FromFn.{length-range_with_len}
 use Rattle.df_lists.specs.NumberSets.{has_member}
 use Rattle.df_lists.proofs.CountLaws.{sb, sb_is}
+use Rattle.df_lists.proofs.SetLaws.{in_range}
 use Rattle.df_group.specs.Elements.{order_of, group_of, IsGroup, minus}
 use Rattle.df_lang.specs.declared.parts.Kind.{Kind}
 use Rattle.df_lang.specs.declared.parts.Kind.TheVariants as kinds
@@ -15,7 +16,7 @@ use Rattle.df_family.specs.declared.table.Row.TheVariants.{Diff, WithFixed, TwoF
 use Rattle.df_family.specs.Translates.{elements, stabilizer}
 use Rattle.df_family.specs.Tables.{fixed_point, finite_points, occurs, summand_of, summand, found}
 use Rattle.df_family.specs.Covers.{coset_points, occurs_at, summand_at, found_at}
-use Rattle.df_family.proofs.ShiftLaws.{all_pass, in_elements}
+use Rattle.df_family.proofs.ShiftLaws.{all_pass}
 
 -- the row of a pair of points
 abbrev pub kind : Stated → ℕ → ℕ → Row
@@ -27,7 +28,7 @@ fixed_back s p h = omega arith
 module _ (s : Stated) (is : IsGroup (group_of s.group)) where
   -- the whole group has one coset
   one_coset : (block : List ℕ) (p : ℕ) → coset_points s (elements s) block p ≡ finite_points s block
-  one_coset block p = all_pass (λ b. has_member (elements s) (minus (group_of s.group) p b)) (finite_points s block) (λ b. in_elements s (minus (group_of s.group) p b) (is.within p ((group_of s.group).neg b)))
+  one_coset block p = all_pass (λ b. has_member (elements s) (minus (group_of s.group) p b)) (finite_points s block) (λ b. in_range (order_of s.group) (minus (group_of s.group) p b) (is.within p ((group_of s.group).neg b)))
 
   -- a block has a row as often as it has two points of that kind
   pub occurs_kind : (block : List ℕ) (p q : ℕ) → p < q → occurs s (kind s p q) block ≡ occurs_at s (elements s) p q block

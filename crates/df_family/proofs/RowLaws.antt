@@ -4,7 +4,7 @@ use Rattle.std.specs.List.{range_with_len, flat_map}
 use Rattle.std.proofs.lemmas.Bool.{cases_lt}
 use Rattle.df_lists.specs.Membership.{In}
 use Rattle.df_lists.specs.NumberSets.{has_member}
-use Rattle.df_lists.proofs.MemberLaws.{In-append_cases, In-append_left, In-append_right, In-map, In-map_gives, In-range, In-range_gives}
+use Rattle.df_lists.proofs.MemberLaws.{In-append_cases, In-append_left, In-append_right, In-flat_map, In-flat_map_gives, In-map, In-map_gives, In-range, In-range_gives}
 use Rattle.df_group.specs.Elements.{order_of, group_of, IsGroup, minus}
 use Rattle.df_group.proofs.GroupLaws.{less_more, minus_zero}
 use Rattle.df_lang.specs.declared.parts.Inside.{Inside}
@@ -14,19 +14,6 @@ use Rattle.df_family.specs.declared.table.Row.{Row}
 use Rattle.df_family.specs.declared.table.Row.TheVariants.{Diff, WithFixed, TwoFixed}
 use Rattle.df_family.specs.Tables.{fixed_point, differences, singles, pairs, rows, stated}
 use Rattle.df_family.proofs.RowKinds.{kind, fixed_back}
-
-pub In-flat_map : {X Y : Type 0} (f : X → List Y) (xs : List X) (x : X) (y : Y) → In xs x → In (f x) y → In (flat_map f xs) y
-In-flat_map f [] x y i j = absurd i
-In-flat_map f (z ∷ xs) x y (inl e) j = In-append_left (f z) (flat_map f xs) y (subst (λ w. In (f w) y) (sym e) j)
-In-flat_map f (z ∷ xs) x y (inr i) j = In-append_right (f z) (flat_map f xs) y (In-flat_map f xs x y i j)
-
-pub In-flat_map_gives : {X Y : Type 0} (f : X → List Y) (xs : List X) (y : Y) → In (flat_map f xs) y → (x : X) × In xs x × In (f x) y
-In-flat_map_gives f [] y i = absurd i
-In-flat_map_gives f (z ∷ xs) y i =
-    elim (In-append_cases (f z) (flat_map f xs) y i) [
-      | inl j ↦ (z, inl refl, j)
-      | inr j ↦ let r = In-flat_map_gives f xs y j in (r.0, inr r.1, r.2)
-    ]
 
 -- a row that is the kind of two points
 pub record IsKind (s : Stated) (row : Row) : Type 0 where

@@ -9,14 +9,14 @@ use Rattle.df_lists.specs.Totals.{total, one}
 use Rattle.df_lists.specs.LeastMembers.{any_below, is_least, IsSameness}
 use Rattle.df_lists.proofs.TotalLaws.{total_same, total_turn}
 use Rattle.df_lists.proofs.LeastLaws.{leasts}
-use Rattle.df_lists.proofs.CountLaws.{cb, sb, cb_is, sb_filter, sb_range, has_filter}
+use Rattle.df_lists.proofs.CountLaws.{cb, sb, cb_is, sb_filter, sb_range}
 use Rattle.df_lists.proofs.TestLaws.{same_tests}
 use Rattle.df_group.specs.Elements.{order_of, group_of, IsGroup, minus}
 use Rattle.df_group.specs.ClosedSets.{IsClosed}
 use Rattle.df_group.proofs.GroupLaws.{far, less_more, minus_minus, minus_self, neg_is, plus_four, turns_less}
 use Rattle.df_lang.specs.declared.parts.Kind.TheVariants as kinds
 use Rattle.df_lang.specs.Problems.{Stated, point_count}
-use Rattle.df_family.specs.Translates.{elements, translate, same_translate, fixes, stabilizer_under}
+use Rattle.df_family.specs.Translates.{translate, same_translate, fixes, stabilizer_under}
 use Rattle.df_family.specs.Developments.{is_listed}
 use Rattle.df_family.proofs.TranslateLaws.{same_by_stabilizer, translate_zero}
 
@@ -48,7 +48,7 @@ each : (a b : Bool) → (a && b) ≡ true → (a ≡ true) × (b ≡ true)
 each true b h = (refl, h)
 each false b h = absurd cc
 
-one_both : (a b : Bool) → one (a && b) ≡ cond a (one b) 0
+pub one_both : (a b : Bool) → one (a && b) ≡ cond a (one b) 0
 one_both true b = refl
 one_both false b = refl
 
@@ -221,10 +221,7 @@ module _ (s : Stated) (is : IsGroup (group_of s.group)) (shifts : List ℕ) (clo
           swapped x l true e = ap (λ v. cond v (W x) 0) (sym (listed_least x l e))
           swapped x l false e = nothing (is_least same_under x) 0 refl
 
--- all elements
+-- a test that each number passes
 pub all_pass : (t : ℕ → Bool) (xs : List ℕ) → ((x : ℕ) → t x ≡ true) → filter t xs ≡ xs
 all_pass t [] h = refl
 all_pass t (x ∷ xs) h = rw (h x) (ap (λ l. x ∷ l) (all_pass t xs h))
-
-pub in_elements : (s : Stated) (x : ℕ) → x < order_of s.group → has_member (elements s) x ≡ true
-in_elements s x h = ap (λ l. has_member l x) (sym (all_pass (λ q. true) (elements s) (λ q. refl))) ∙ has_filter (λ q. true) (order_of s.group) x h

@@ -12,7 +12,7 @@ use Rattle.df_family.specs.Developments.{develop}
 use Rattle.df_family.specs.declared.table.Entry.{Entry}
 use Rattle.df_family.specs.declared.table.Row.TheVariants.{Diff}
 use Rattle.df_family.specs.Tables.{rows, found, stated, entry, table, is_wrong, IsAsStated}
-use Rattle.df_family.specs.Verdicts.{verdict_at, verdict_on, is_accepted, TellsBalance}
+use Rattle.df_family.specs.Verdicts.{verdict_at, verdict_on, is_accepted}
 use Rattle.df_family.specs.FamilyLaws.{VerdictLaw}
 use Rattle.df_family.proofs.BalanceLaws.{balance}
 
@@ -89,21 +89,3 @@ verdict_law s is =
     let r = accepts_rows s in
     let b = balance s is in
     (λ h. b.0 (r.0 h), λ h. r.1 (b.1 h))
-
--- no row of the table differs exactly where the development is balanced
-pub none_differs : (s : Stated) (t : List Entry) (first : Option ℕ) → IsStated s → t ≡ table s → first ≡ position is_wrong t → TellsBalance s first
-none_differs s t first rules is at = subst (TellsBalance s) (sym at) (go (position is_wrong t) refl)
-  where
-    law : (is_accepted (verdict_on s) ≡ true) ↔ IsBalanced s (develop s)
-    law = verdict_law s rules
-
-    go : (o : Option ℕ) → position is_wrong t ≡ o → TellsBalance s o
-    go None e =
-        let none : find is_wrong (table s) ≡ None = ap (find is_wrong) (sym is) ∙ none_first is_wrong t e in
-        let accepted : is_accepted (verdict_on s) ≡ true = ap (λ o. is_accepted (verdict_at s o)) none in
-        record { balanced = λ h. law.0 accepted; unbalanced = λ b. refl }
-    go (Some i) e =
-        let d : Entry = record { row = Diff 0; found = 0; stated = 0 } in
-        let found : find is_wrong (table s) ≡ Some (get_or t i d) = ap (find is_wrong) (sym is) ∙ (found_first is_wrong t i d e).1 in
-        let refused : is_accepted (verdict_on s) ≡ false = ap (λ o. is_accepted (verdict_at s o)) found in
-        record { balanced = λ h. absurd (let z : ⊥ = cc in z); unbalanced = λ b. absurd (both_ways (is_accepted (verdict_on s)) refused (law.1 b)) }

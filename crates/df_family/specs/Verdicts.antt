@@ -1,7 +1,6 @@
 -- The verdict on a family: the first row that isn't found as often as is stated.
-use Rattle.std.specs.Prelude.{⊤, ℕ, IsNone, Bool, true, false, length, find, Option, None, Some}
+use Rattle.std.specs.Prelude.{⊤, Bool, true, false, length, find, Option, None, Some}
 use Rattle.df_lang.specs.Problems.{Stated}
-use Rattle.df_lang.specs.Balance.{IsBalanced}
 use Rattle.df_family.specs.declared.table.Entry.{Entry}
 use Rattle.df_family.specs.declared.verdict.Verdict.{Verdict}
 use Rattle.df_family.specs.declared.verdict.Verdict.TheVariants.{Accepted, Refused}
@@ -24,8 +23,3 @@ IsVerdictOn s (Refused row found stated) = IsRow s row
 abbrev pub is_accepted : Verdict → Bool
 is_accepted (Accepted blocks) = true
 is_accepted (Refused row found stated) = false
-
--- a first wrong place is missing exactly where the development is balanced
-pub record TellsBalance (s : Stated) (first : Option ℕ) : Type 0 where
-  pub balanced : IsNone first → IsBalanced s (develop s)
-  pub unbalanced : IsBalanced s (develop s) → IsNone first

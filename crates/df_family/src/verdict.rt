@@ -1,10 +1,9 @@
 // The verdict on a family.
-ghost use Rattle.std.specs.Prelude.{◌≡◌, ◌↔◌, true, length, position, IfOk};
-ghost use Rattle.df_lang.specs.Problems.{IsStated};
+ghost use Rattle.std.specs.Prelude.{◌≡◌, ◌↔◌, true, length, IfOk};
 ghost use Rattle.df_lang.specs.Balance.{IsBalanced};
 ghost use Rattle.df_family.specs.Developments.{develop};
-ghost use Rattle.df_family.specs.Tables.{IsAsStated, is_wrong, table as table_of};
-ghost use Rattle.df_family.specs.Verdicts.{verdict_on, is_accepted, IsVerdictOn, TellsBalance};
+ghost use Rattle.df_family.specs.Tables.{IsAsStated, table as table_of};
+ghost use Rattle.df_family.specs.Verdicts.{verdict_on, is_accepted, IsVerdictOn};
 
 use crate::OutOfMemory;
 use crate::table::{Row, Table, counted_table};
@@ -34,12 +33,11 @@ pub fn verify(alloc: Global, problem: &Problem) -> Result<Verdict, OutOfMemory>
 
 // The verdict that the problem's table gives, where the development has this many blocks.
 fn verdict_by(problem: &Problem, table: &Table, blocks: u64) -> Verdict
-    requires rules { IsStated problem.now }
     requires table { table.now ≡ table_of problem.now }
     requires blocks { blocks ≡ length (develop problem.now) }
     ensures { result ≡ verdict_on problem.now }
 {
-    match first_fault(problem, table) {
+    match table.first_wrong() {
         None => Verdict::Accepted { blocks },
         Some(place) => Verdict::Refused {
             row: table.row(place),
@@ -47,15 +45,4 @@ fn verdict_by(problem: &Problem, table: &Table, blocks: u64) -> Verdict
             stated: table.stated(place),
         },
     }
-}
-
-// The first place of the problem's table whose numbers differ. There is none exactly where the development is balanced.
-#[tactic(auto, using(crate::proofs::VerdictLaws::none_differs))]
-fn first_fault(problem: &Problem, table: &Table) -> Option<usize>
-    requires rules { IsStated problem.now }
-    requires table { table.now ≡ table_of problem.now }
-    ensures balance { TellsBalance problem.now result }
-    ensures first { result ≡ position is_wrong table.now }
-{
-    table.first_wrong()
 }

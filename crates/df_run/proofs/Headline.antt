@@ -1,5 +1,5 @@
 -- The headline, from how a run ends and from the laws of the rooms below.
-use Rattle.std.proofs.Common.{◌≡◌, ℕ, ◌≤◌, Bool, true, false, not, eqb, cond, List, [], ◌∷◌, find, length, codes, Option, Some, None, Result, Ok, Err, IfSome, refl, sym, ap, ◌∙◌, subst, inl, inr, eq-eqb, arith, ⊎_elim, ◌^◌}
+use Rattle.std.proofs.Common.{◌≡◌, ℕ, ◌≤◌, Bool, true, false, not, cond, List, [], ◌∷◌, find, length, codes, Option, Some, None, Result, Ok, Err, refl, sym, ap, ◌∙◌, subst, inl, inr, eq-eqb, arith, ⊎_elim, ◌^◌}
 use Rattle.std.specs.Io.KnownBytes.{Appends}
 use Rattle.std.proofs.lemmas.Bool.{both_ways}
 use Rattle.std.proofs.lemmas.Option.{IfSome_then}
@@ -8,20 +8,19 @@ use Rattle.df_lists.proofs.MemberLaws.{In-map_gives}
 use Rattle.df_lang.specs.Problems.{Stated, IsStated}
 use Rattle.df_lang.specs.Sources.{source}
 use Rattle.df_lang.specs.declared.fault.SourceError.{SourceError}
-use Rattle.df_family.specs.Developments.{develop}
 use Rattle.df_family.specs.FamilyLaws.{BalanceLaw, VerdictLaw}
 use Rattle.df_family.specs.Tables.{rows, found, stated, entry, table, is_wrong}
-use Rattle.df_family.specs.Verdicts.{verdict_at, verdict_on, is_accepted}
+use Rattle.df_family.specs.Verdicts.{verdict_at, is_accepted}
 use Rattle.df_family.specs.declared.table.Entry.{Entry}
-use Rattle.df_tell.specs.Verdict.{verdict_text, accepted_text}
+use Rattle.df_tell.specs.Verdict.{verdict_text}
 use Rattle.df_words.specs.CommandLines.{IsCommandLine}
 use Rattle.df_words.specs.declared.command.Command.{Command}
 use Rattle.df_words.specs.declared.command.Command.TheVariants as commands
 use Rattle.df_words.specs.Reading.{CommandLineLaw}
 use Rattle.df_lang.specs.RulesLaw.{SourcesKeepTheirRules}
 use Rattle.df_run.specs.declared.tasks.Task.TheVariants.{Source}
-use Rattle.df_run.specs.Answers.{answer_on, answer_to, verdict_answer}
-use Rattle.df_run.specs.Endings.{EndsAs, IsUsage, IsTask, Answers, Replies}
+use Rattle.df_run.specs.Answers.{answer_to, verdict_answer}
+use Rattle.df_run.specs.Endings.{EndsAs, Answers}
 use Rattle.df_run.specs.Headline.{Headline, IsAccepted, IsRefused}
 use Rattle.df_run.specs.Streams.{Incoming, Outgoing}
 use Rattle.df_run.specs.Tasks.{task_of}

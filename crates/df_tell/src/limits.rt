@@ -1,5 +1,5 @@
 // What is printed of a problem that is above a limit.
-ghost use Rattle.std.specs.Prelude.{◌≡◌, ◌≤◌, ◌+◌, ◌++◌, length};
+ghost use Rattle.std.specs.Prelude.{◌≡◌, ◌≤◌, ◌+◌, ◌++◌};
 ghost use Rattle.arrayvec.specs.ArrayVec.{array_vec_len};
 ghost use Rattle.df_io.specs.Writing.{Writes};
 ghost use Rattle.df_tell.specs.Limits.{limit_text, bound_text};

@@ -1,11 +1,9 @@
 // The verdict on a family, and the development where it is accepted.
-ghost use Rattle.std.specs.Prelude.{◌≡◌, ◌≤◌, ◌++◌, length, codes};
+ghost use Rattle.std.specs.Prelude.{◌≡◌, ◌≤◌, length};
 ghost use Rattle.df_io.specs.Writing.{Writes};
-ghost use Rattle.df_family.specs.Developments.{develop};
 ghost use Rattle.df_family.specs.Tables.{IsRow};
 ghost use Rattle.df_family.specs.Verdicts.{IsVerdictOn};
-ghost use Rattle.df_tell.specs.Counts.{count_line};
-ghost use Rattle.df_tell.specs.Verdict.{block_line, block_lines, refused_line, accepted_text, verdict_text};
+ghost use Rattle.df_tell.specs.Verdict.{block_line, refused_line, accepted_text, verdict_text};
 
 use crate::counts::fill_count;
 use df_family::{Develop, Row, Verdict};

@@ -1,7 +1,6 @@
-use Rattle.std.proofs.Common.{◌≡◌, ◌≤◌, ◌++◌, List, ℕ, length, All, Ok}
+use Rattle.std.proofs.Common.{◌≡◌, ◌++◌, List, ℕ, length, All, Ok}
 use Rattle.df_io.specs.Writing.{Writes}
 use Rattle.df_tell.specs.Orbits.{IsShort}
-use Rattle.df_family.specs.Developments.{develop}
 use Rattle.df_tell.specs.Verdict.{accepted_text, block_lines}
 use Rattle.df_tell.proofs.verdict.write_accepted.Given as goal
 
