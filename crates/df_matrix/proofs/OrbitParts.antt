@@ -46,7 +46,9 @@ module _ (s : Stated) {maps : MapGroup} {pairs : List (List ℕ × ℕ)} {number
   blocks_long = sym (length-map blocks (λ (c : List ℕ × ℕ). c.0)) ∙ ap length blocks_listed
 
   pub orbits_few : length (orbits_of s) ≤ 8000000
-  orbits_few = omega (arith, count_whole {X = List ℕ}, K.few)
+  orbits_few =
+      let few : length (orbits_of s) ≤ length (all_blocks s) = count_whole (is_earliest before (image (maps_of_problem s)) (full_maps (maps_of_problem s))) (all_blocks s) in
+      omega (arith, few, K.few)
 
   pub row_sized : (i n : ℕ) → n ≡ get_or (class_sizes pairs) i 0 → i < length (pairs_of s) → n ≡ row_size s (pair_at s i)
   row_sized i n h k = h ∙ ap (λ l. get_or l i 0) (ap class_sizes K.pairs_are ∙ sizes_are (maps_of_problem s) (all_pairs s)) ∙ get_or-map (row_size s) (pairs_of s) i [] 0 k
