@@ -17,5 +17,5 @@ pub use cells::OrbitCells;
 pub use matrix::{MOST_COLUMNS, MOST_ENTRIES, MatrixError, OrbitMatrix, build};
 pub use orbits::ProblemOrbits;
 
-/// Want of memory.
+/// Out of memory.
 pub type OutOfMemory = std::alloc::AllocError;
