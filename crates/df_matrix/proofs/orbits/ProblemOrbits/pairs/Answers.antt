@@ -1,4 +1,4 @@
-use Rattle.std.proofs.Common.{◌≡◌, ◌≤◌, ℕ, List, length, ap, sym, subst, arith, All}
+use Rattle.std.proofs.Common.{◌≤◌, ℕ, List, length, ap, sym, subst, arith, All}
 use Rattle.df_kramer_mesner.specs.OrbitSystems.{pairs_of}
 use Rattle.df_matrix.specs.MatrixParts.{AreOrbits}
 use Rattle.df_matrix.proofs.OrbitParts.{shown, pairs_listed, all_from}
