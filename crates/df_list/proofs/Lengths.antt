@@ -3,11 +3,8 @@ use Rattle.std.proofs.Common.{ℕ, ◌^◌, ◌<◌, ◌≤◌, ◌++◌, List, 
 use Rattle.std.specs.Fmt.{decimal}
 use Rattle.std.proofs.lemmas.Fmt.{length-decimal-le}
 
-number_is_short : (n : ℕ) → n < 2 ^ 64 → length (decimal n) ≤ 20
-number_is_short n h = length-decimal-le 20 n (omega arith) (omega arith) h
-
 pub line_is_short : (name : List ℕ) (found stated : ℕ) → length name ≤ 63 → found < 2 ^ 64 → stated < 2 ^ 64 → length ((((name ++ codes " found ") ++ decimal found) ++ codes " stated ") ++ decimal stated) ≤ 120
 line_is_short name found stated short f s =
-    let a = number_is_short found f in
-    let b = number_is_short stated s in
+    let a = length-decimal-le 20 found (omega arith) (omega arith) f in
+    let b = length-decimal-le 20 stated (omega arith) (omega arith) s in
     simp length-append (omega arith)
