@@ -1,6 +1,6 @@
 -- Each orbit has one earliest member, and where marks find it.
-use Rattle.std.proofs.Common.{◌≡◌, Bool, true, false, not, cond, ◌++◌, map, List, [], ◌∷◌, refl, sym, ap, ap₂, ◌∙◌, subst, inl, inr, ⊎_elim, append_assoc}
-use Rattle.std.proofs.lemmas.Bool.{both_ways, not-true, not_from_false, false_from_ne_true, false≢true}
+use Rattle.std.proofs.Common.{◌≡◌, Bool, true, false, not, cond, ◌++◌, map, List, [], ◌∷◌, refl, sym, ap, ◌∙◌, subst, inl, inr, ⊎_elim, append_assoc}
+use Rattle.std.proofs.lemmas.Bool.{both_ways, not-true, not_from_false, false_from_ne_true}
 use Rattle.std.specs.List.{list_any}
 use Rattle.df_lists.specs.Membership.{In}
 use Rattle.df_lists.proofs.MemberLaws.{In-append_left, In-append_right, In-append_cases, In-map, In-map_gives}

@@ -1,13 +1,10 @@
 -- Images of sets of points.
-use Rattle.std.proofs.Common.{◌≡◌, ℕ, suc, zero, ◌+◌, ◌*◌, ◌<◌, ◌≤◌, Bool, true, map, List, [], ◌∷◌, length, filter, refl, sym, ap, ◌∙◌, subst, arith, eqb, ⊎_elim, eq-eqb, ne_eqb, eqb-true}
-use Rattle.std.proofs.lemmas.Bool.{cases_eq}
+use Rattle.std.proofs.Common.{◌≡◌, ℕ, ◌<◌, true, map, List, length, sym, ap, ◌∙◌, subst, arith, eqb}
 use Rattle.std.specs.List.{range_with_len}
-use Rattle.df_lists.specs.Membership.{In, count}
+use Rattle.df_lists.specs.Membership.{In}
 use Rattle.df_lists.specs.NumberSets.{has_member, set_of, IsSet}
-use Rattle.df_lists.proofs.MemberLaws.{In-map, In-map_gives, In-filter, In-filter_gives, In-range, In-range_gives, count_none}
+use Rattle.df_lists.proofs.MemberLaws.{In-map, In-map_gives, In-filter, In-filter_gives}
 use Rattle.df_lists.proofs.ListTotals.{count_agree}
-use Rattle.df_lists.proofs.CountLaws.{has_filter}
-use Rattle.df_lists.specs.Orders.{IsEquality}
 use Rattle.df_acting.specs.Classes.{IsMapGroup, IsSpread}
 use Rattle.df_acting.specs.Images.{image, holds}
 use Rattle.df_lists.proofs.TestLaws.{same_tests, all_from, all_gives, filter_agree, map_agree, map_fixed, has_from, has_gives}

@@ -1,5 +1,5 @@
 -- Lists of maps that act on things of one kind, and the orbits that they make.
-use Rattle.std.specs.Prelude.{◌≡◌, ℕ, Bool, true, ◌&&◌, List}
+use Rattle.std.specs.Prelude.{◌≡◌, ℕ, Bool, ◌&&◌, List}
 use Rattle.std.specs.List.{list_any}
 use Rattle.df_lists.specs.Membership.{In, count}
 

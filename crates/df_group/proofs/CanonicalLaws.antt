@@ -1,5 +1,5 @@
 -- Canonical generators: they generate the subgroup, and each one at least doubles it.
-use Rattle.std.proofs.Common.{All, get_or, ◌≡◌, ℕ, zero, suc, ◌+◌, ◌-◌, ◌*◌, ◌^◌, ◌<◌, ◌≤◌, Bool, true, false, cond, List, [], ◌∷◌, ◌++◌, length, filter, if◌then◌else◌, ◌⊎◌, refl, sym, ap, ◌∙◌, inl, inr, ⊎_elim, subst, arith, append_assoc, length-append}
+use Rattle.std.proofs.Common.{All, get_or, ◌≡◌, ℕ, zero, suc, ◌+◌, ◌-◌, ◌*◌, ◌^◌, ◌<◌, ◌≤◌, Bool, true, false, List, [], ◌∷◌, ◌++◌, length, filter, if◌then◌else◌, ◌⊎◌, refl, sym, ap, ◌∙◌, inl, inr, ⊎_elim, subst, arith, append_assoc, length-append}
 use Rattle.std.proofs.Math.Nat.{pow-suc, pow-le-pow_right}
 use Rattle.std.proofs.lemmas.Bool.{both_ways, cases_lt}
 use Rattle.std.specs.Cmp.{both_ways as same_tests}
@@ -7,7 +7,6 @@ use Rattle.std.specs.List.{range_with_len}
 use Rattle.df_lists.specs.Membership.{In}
 use Rattle.df_lists.specs.NumberSets.{has_member, IsSet}
 use Rattle.df_lists.specs.Totals.{total, one}
-use Rattle.df_lists.proofs.RangeLaws.{filter_more}
 use Rattle.df_lists.proofs.TotalLaws.{total_add, total_turn}
 use Rattle.df_lists.proofs.MemberLaws.{In-append_cases, In-append_left, In-append_right}
 use Rattle.df_lists.proofs.SetLaws.{same_sets}

@@ -46,6 +46,3 @@ product_small order f n i some within few small bound =
     let step = bound_more order f n i some within small bound in
     let top : 128 ^ (n - (i - 1)) ≤ 128 ^ 7 = pow-le-pow_right (omega arith) {i = n - (i - 1)} {j = 7} (omega arith) in
     omega (arith, step, top)
-
-pub shape_of : (fs : List ℕ) → 0 < length fs → length fs ≤ 7 → All IsFactor fs → order_of fs ≤ 128 → IsShape fs
-shape_of fs some few each small = record { some = some; few = few; factors = each; small = small }

@@ -1,15 +1,14 @@
 -- Sums, differences and multiples of numbers, from the last place on.
-use Rattle.std.proofs.Common.{◌≡◌, ℕ, zero, suc, ◌+◌, ◌-◌, ◌*◌, ◌/◌, ◌%◌, ◌<◌, ◌≤◌, List, [], ◌∷◌, length, get_or, drop, refl, sym, subst, ap, ◌∙◌, arith, mul-le-mul, mul-le-mul_right, one-mul, mul_comm}
+use Rattle.std.proofs.Common.{◌≡◌, ℕ, zero, suc, ◌+◌, ◌-◌, ◌*◌, ◌/◌, ◌%◌, ◌<◌, ◌≤◌, List, [], ◌∷◌, length, get_or, drop, refl, sym, subst, ap, ◌∙◌, arith, mul-le-mul_right, one-mul, mul_comm}
 use Rattle.std.proofs.Math.Arith.{mod-mul}
 use Rattle.std.proofs.Math.Nat.{mod-lt, mod-eq_of_lt, add-mod-mod, div-div-eq-div-mul, div-one}
 use Rattle.std.proofs.lemmas.Nat.{div-mul-add, mod-mul-add, div_below}
 use Rattle.std.proofs.lemmas.List.{drop_more}
-use Rattle.df_group.specs.Elements.{order_of, number, residues, sum_of, negative_of, multiple_of, group_of, minus, IsElement, IsShape}
+use Rattle.df_group.specs.Elements.{order_of, number, residues, sum_of, negative_of, multiple_of, group_of, minus, IsShape}
 use Rattle.df_group.proofs.ElementLaws.{ArePositive, positive_shape, order_some, residues_are, residues_number, number_within, negatives_are, multiples_are, group_of_positive, is_group}
 use Rattle.df_group.proofs.MultipleLaws.{are_multiples}
 use Rattle.df_group.proofs.GroupLaws.{zero_plus}
-use Rattle.df_group.proofs.Orders.{order_more}
-use Rattle.df_group.proofs.PlaceSteps.{positive_drop, drop_end, order_drop, factor_at}
+use Rattle.df_group.proofs.PlaceSteps.{positive_drop, order_drop, factor_at}
 
 -- the remainder by the order has the same residues
 pub residues_reduced : (fs : List ℕ) → ArePositive fs → (a : ℕ) → residues fs (a % order_of fs) ≡ residues fs a

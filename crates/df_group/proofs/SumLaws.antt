@@ -1,10 +1,8 @@
 -- Sums of multiples of generators are closed, and the least that is.
-use Rattle.std.proofs.Common.{◌≡◌, ℕ, zero, suc, ◌+◌, ◌-◌, ◌%◌, ◌<◌, Bool, true, false, eqb, ◌||◌, List, [], ◌∷◌, map, refl, sym, ap, ◌∙◌, inl, inr, ⊎_elim, subst, arith, eq-eqb, mod-lt}
+use Rattle.std.proofs.Common.{◌≡◌, ℕ, zero, suc, ◌+◌, ◌-◌, ◌%◌, ◌<◌, List, [], ◌∷◌, map, refl, sym, ap, ◌∙◌, inl, inr, subst, arith, mod-lt}
 use Rattle.std.proofs.Math.Nat.{mod_self}
-use Rattle.std.proofs.lemmas.Bool.{eqb-true}
-use Rattle.std.specs.List.{flat_map, range_with_len}
+use Rattle.std.specs.List.{range_with_len}
 use Rattle.df_lists.specs.Membership.{In}
-use Rattle.df_lists.specs.NumberSets.{has_member}
 use Rattle.df_lists.proofs.MemberLaws.{In-flat_map, In-flat_map_gives, In-map, In-map_gives, In-range, In-range_gives}
 use Rattle.df_group.specs.Elements.{group_of, order_of, minus, IsShape}
 use Rattle.df_group.specs.Subgroups.{exponent_of, sums}

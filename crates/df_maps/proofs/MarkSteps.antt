@@ -1,17 +1,13 @@
 -- Marks in lists of tests, and tests over the first members of a list.
-use Rattle.std.proofs.Common.{◌≡◌, ℕ, ◌+◌, ◌<◌, Bool, true, false, ◌||◌, List, [], ◌∷◌, length, get_or, set, take, get_or-set_same, get_or-set_other, eq-eqb, ne_eqb, refl, sym, ap, ◌∙◌, subst, eqb, ⊎_elim}
+use Rattle.std.proofs.Common.{◌≡◌, ℕ, ◌+◌, ◌<◌, Bool, true, false, ◌||◌, List, length, get_or, set, take, get_or-set_same, get_or-set_other, eq-eqb, ne_eqb, refl, sym, ap, ◌∙◌, subst, eqb, ⊎_elim}
 use Rattle.std.proofs.lemmas.Bool.{cases_eq, or_right}
-use Rattle.std.proofs.lemmas.List.{take_more}
-use Rattle.std.proofs.lemmas.List.Folds.{list_any-append}
 use Rattle.std.specs.List.{list_any}
+pub use Rattle.std.proofs.Math.Bool.{or_assoc}
+pub use Rattle.df_lists.proofs.ListPlaces.{any_take_more}
 
 pub or_none : (b : Bool) → (b || false) ≡ b
 or_none true = refl
 or_none false = refl
-
-pub or_assoc : (a b c : Bool) → ((a || b) || c) ≡ (a || (b || c))
-or_assoc true b c = refl
-or_assoc false b c = refl
 
 -- one more mark
 pub set_mark : (marks : List Bool) (k j : ℕ) → k < length marks → get_or (set marks k true) j false ≡ (get_or marks j false || eqb k j)
@@ -22,10 +18,6 @@ set_mark marks k j h = ⊎_elim (λ e. here e) (λ ne. there ne) (cases_eq j k)
 
     there : (j ≡ k → ⊥) → get_or (set marks k true) j false ≡ (get_or marks j false || eqb k j)
     there ne = get_or-set_other marks k j true false ne ∙ sym (ap (λ b. get_or marks j false || b) (ne_eqb k j (λ e. ne (sym e))) ∙ or_none (get_or marks j false))
-
--- a test over one more of the first members
-pub any_take_more : {X : Type 0} (t : X → Bool) (xs : List X) (i : ℕ) (d : X) → i < length xs → list_any t (take (i + 1) xs) ≡ (list_any t (take i xs) || t (get_or xs i d))
-any_take_more t xs i d h = ap (list_any t) (take_more xs i d h) ∙ list_any-append t (take i xs) (get_or xs i d ∷ []) ∙ ap (λ b. list_any t (take i xs) || b) (or_none (t (get_or xs i d)))
 
 -- the mark that a loop over a list sets
 pub mark_more : (old marks : List Bool) (t : ℕ → ℕ) (xs : List ℕ) (i j : ℕ) → i < length xs → t (get_or xs i 0) < length marks

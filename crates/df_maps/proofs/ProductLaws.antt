@@ -1,13 +1,10 @@
 -- The products of at most e multipliers give the residues of all products.
-use Rattle.std.proofs.Common.{◌≡◌, ℕ, suc, zero, ◌*◌, ◌%◌, ◌<◌, ◌≤◌, Bool, true, false, not, List, [], ◌∷◌, map, length, refl, sym, ap, ◌∙◌, subst, inl, inr, ◌⊎◌, arith, ⊎_elim, mod-lt}
+use Rattle.std.proofs.Common.{◌≡◌, ℕ, suc, zero, ◌*◌, ◌%◌, ◌<◌, Bool, true, false, not, List, [], ◌∷◌, map, length, refl, sym, ap, ◌∙◌, subst, inl, inr, ◌⊎◌, arith, ⊎_elim, mod-lt}
 use Rattle.std.proofs.lemmas.Bool.{not-true, not_from_false, both_ways}
-use Rattle.std.proofs.lemmas.List.FromFn.{length-range_with_len}
 use Rattle.std.specs.List.{flat_map, range_with_len, list_any}
-use Rattle.df_lists.specs.Membership.{In, count}
+use Rattle.df_lists.specs.Membership.{In}
 use Rattle.df_lists.specs.NumberSets.{has_member, set_of, IsSet}
-use Rattle.df_lists.specs.Totals.{one}
-use Rattle.df_lists.proofs.MemberLaws.{In-append_left, In-append_right, In-append_cases, In-map, In-map_gives, In-filter, In-filter_gives, count_some}
-use Rattle.df_lists.proofs.ListTotals.{list_total, count_total}
+use Rattle.df_lists.proofs.MemberLaws.{In-map, In-map_gives, In-filter, In-filter_gives, count_some}
 use Rattle.df_lists.proofs.TestLaws.{any_from, any_gives, has_from, has_gives}
 use Rattle.df_acting.proofs.ImageLaws.{In-points, In-points_gives, filter_is_set}
 use Rattle.df_maps.specs.Products.{product_of, AllIn, products_within, products, AreProducts}

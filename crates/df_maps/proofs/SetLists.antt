@@ -44,11 +44,8 @@ set_sorted v b is = subst (IsSorted ltb) (sym is) (filter_sorted (has_member b) 
 -- an earlier place has a smaller number
 sorted_at : (b : List ℕ) (i j : ℕ) → IsSorted ltb b → i < j → j < length b → get_or b i 0 < get_or b j 0
 sorted_at [] i j s h k = absurd (omega arith)
-
 sorted_at (p ∷ b) i zero s h k = absurd (omega arith)
-
 sorted_at (p ∷ b) zero (suc j) s h k = ltb-true p (get_or b j 0) (s.0 (get_or b j 0) (In-get_or b j 0 (omega arith)))
-
 sorted_at (p ∷ b) (suc i) (suc j) s h k = sorted_at b i j s.1 (omega arith) (omega arith)
 
 pub set_apart : (v : ℕ) (b : List ℕ) (i j : ℕ) → IsSet v b → i < length b → j < length b → get_or b i 0 ≡ get_or b j 0 → i ≡ j

@@ -1,7 +1,6 @@
 -- Lists of blocks that no group of maps leads out of.
-use Rattle.std.proofs.Common.{◌≡◌, ℕ, ◌<◌, List, length, ap, ◌∙◌}
+use Rattle.std.proofs.Common.{ℕ, ◌<◌, List, ap, ◌∙◌}
 use Rattle.std.specs.List.{list_any}
-use Rattle.df_lists.specs.Membership.{In}
 use Rattle.df_lists.specs.NumberSets.{IsSet}
 use Rattle.df_subsets.specs.Subsets.{subsets, candidates, same_list}
 use Rattle.df_subsets.proofs.BlockLaws.{block_is_set, set_is_block}

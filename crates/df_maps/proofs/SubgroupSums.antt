@@ -1,5 +1,5 @@
 -- What a subgroup has, by its members.
-use Rattle.std.proofs.Common.{ℕ, ◌<◌, List}
+use Rattle.std.proofs.Common.{ℕ, List}
 use Rattle.df_lists.specs.Membership.{In}
 use Rattle.df_lists.specs.NumberSets.{IsSet}
 use Rattle.df_lists.proofs.TestLaws.{has_from, has_gives}

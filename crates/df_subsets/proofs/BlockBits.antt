@@ -1,18 +1,11 @@
 -- The bits of blocks that are runs of points, or joined of two.
-use Rattle.std.proofs.Common.{◌≡◌, ℕ, suc, zero, ◌+◌, ◌-◌, ◌*◌, ◌/◌, ◌%◌, ◌^◌, ◌<◌, ◌≤◌, true, eqb, eqb-true, ◌++◌, List, [], ◌∷◌, length, refl, sym, subst, add-one, ap, ap₂, ◌∙◌, inl, inr, arith, bit_or, bit_and, ⊎_elim, eq-eqb, ne_eqb, lt-ltb, le-ltb, get_or}
-use Rattle.std.specs.Int.{bit_at, w128, trailing_zeros}
-use Rattle.std.specs.Int.RustNames.{count_ones}
+use Rattle.std.proofs.Common.{◌≡◌, ℕ, suc, zero, ◌+◌, ◌-◌, ◌^◌, ◌<◌, ◌≤◌, ◌++◌, List, [], ◌∷◌, refl, add-one, ap, ◌∙◌, arith, ne_eqb, le-ltb}
 use Rattle.std.specs.List.{range_with_len}
-use Rattle.std.proofs.lemmas.Bool.{cases_lt, cases_order, both_ways, or_left}
-use Rattle.std.proofs.lemmas.Nat.{pow_pos, ones_cat, pow-add, shl-shr, or_disjoint, one_shl}
-use Rattle.std.proofs.lemmas.Nat.Bits.{and_pow, bit_at-trailing_zeros}
 use Rattle.std.proofs.lemmas.List.Sums.{sum_by-cons, sum_by-append}
-use Rattle.std.proofs.Math.Nat.{two-pow-succ, pow-le-pow_right, mul-mod_left, div-eq_of_lt}
-use Rattle.df_lists.specs.Membership.{In}
+use Rattle.std.proofs.Math.Nat.{two-pow-succ}
 use Rattle.df_lists.specs.NumberSets.{with_member}
 use Rattle.df_lists.specs.Bits.{weight}
-use Rattle.df_lists.proofs.TestLaws.{has_from}
-use Rattle.df_subsets.specs.Blocks.{Rises, IsBlock}
+use Rattle.df_subsets.specs.Blocks.{Rises}
 use Rattle.df_subsets.proofs.BlockLaws.{Rises-wider}
 
 -- a point that is after all of a block is put at its end

@@ -1,14 +1,13 @@
 -- The order of blocks, and all blocks of a size in it.
-use Rattle.std.proofs.Common.{◌≡◌, ℕ, suc, zero, ◌+◌, ◌<◌, Bool, true, false, ◌&&◌, ◌||◌, ◌++◌, map, List, [], ◌∷◌, length, refl, sym, ◌∙◌, subst, inl, inr, ◌⊎◌, arith, eqb, ltb, ⊎_elim, eq-eqb, ne_eqb, eqb-true, lt-ltb, le-ltb, ltb-true}
+use Rattle.std.proofs.Common.{◌≡◌, ℕ, suc, zero, ◌+◌, ◌<◌, true, false, ◌&&◌, ◌||◌, map, List, [], ◌∷◌, length, refl, sym, ◌∙◌, subst, inl, inr, ◌⊎◌, arith, eqb, ltb, eq-eqb, ne_eqb, eqb-true, lt-ltb, le-ltb, ltb-true}
 use Rattle.std.proofs.lemmas.Bool.{false≢true, and_parts, and_from, or_cases, or_parts, or_left, or_right, cases_order}
 use Rattle.std.specs.List.{range_with_len}
 use Rattle.std.specs.Ordering.{nat_cmp, is_lt}
 use Rattle.std.specs.Cmp.Lexicographic.{slice_cmp}
-use Rattle.df_lists.specs.Membership.{In}
 use Rattle.df_subsets.specs.Blocks.{Rises, before}
 use Rattle.df_subsets.specs.Subsets.{choose, subsets}
 use Rattle.df_lists.specs.Orders.{IsOrder, IsSorted}
-use Rattle.df_lists.proofs.MemberLaws.{In-append_cases, In-map_gives}
+use Rattle.df_lists.proofs.MemberLaws.{In-map_gives}
 use Rattle.df_subsets.proofs.SubsetLists.{choose_inside}
 use Rattle.df_lists.proofs.SortedLists.{sorted-append, sorted-map}
 

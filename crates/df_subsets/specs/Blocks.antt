@@ -1,5 +1,5 @@
 -- Blocks: strictly increasing lists of points.
-use Rattle.std.specs.Prelude.{◌≤◌, ◌<◌, ◌+◌, ◌==◌, ℕ, Bool, true, false, not, ◌&&◌, ◌||◌, List, [], ◌∷◌, nat_lt}
+use Rattle.std.specs.Prelude.{◌==◌, ℕ, Bool, true, false, not, ◌&&◌, ◌||◌, List, [], ◌∷◌, nat_lt}
 use Rattle.df_lists.specs.NumberSets.{has_member, with_member}
 pub use Rattle.df_lists.specs.NumberSets.{Rises}
 

@@ -1,7 +1,6 @@
-use Rattle.std.proofs.Common.{◌≡◌, ℕ, ◌+◌, ◌-◌, ◌*◌, ◌%◌, get_or, drop, ap, ◌∙◌, arith, mul-le-mul}
-use Rattle.df_group.specs.Elements.{group_of}
+use Rattle.std.proofs.Common.{◌-◌, ◌*◌, ◌%◌, get_or, arith}
 use Rattle.df_group.proofs.MultipleLaws.{are_multiples}
-use Rattle.df_group.proofs.PlaceSums.{weight_more, weight_small, place_small, first_small, rest_before, rest_first, at_first, multiple_small, multiple_before, multiple_end, times_high}
+use Rattle.df_group.proofs.PlaceSums.{weight_more, weight_small, place_small, rest_before, multiple_small, multiple_before, multiple_end, times_high}
 use Rattle.df_group.proofs.places.multiple.Goals as goal
 use Rattle.df_group.proofs.places.multiple.Goals.{After-loop-i}
 

@@ -1,7 +1,7 @@
 use Rattle.std.proofs.Common.{◌≡◌, ◌+◌, ◌-◌, ◌*◌, ◌%◌, get_or, drop, ap, ◌∙◌, arith}
-use Rattle.df_group.specs.Elements.{group_of, minus}
+use Rattle.df_group.specs.Elements.{group_of}
 use Rattle.df_group.proofs.ElementLaws.{is_group}
-use Rattle.df_group.proofs.PlaceSums.{weight_more, weight_small, place_small, first_small, rest_before, rest_first, at_first, sum_small, sum_before, sum_end, plus_high}
+use Rattle.df_group.proofs.PlaceSums.{weight_more, weight_small, place_small, rest_before, sum_small, sum_before, sum_end, plus_high}
 use Rattle.df_group.proofs.places.sum.Goals as goal
 use Rattle.df_group.proofs.places.sum.Goals.{After-wrapped, After-wrapped-2}
 

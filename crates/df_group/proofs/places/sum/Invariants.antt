@@ -1,5 +1,5 @@
 use Rattle.std.proofs.Common.{◌≡◌, ◌/◌, drop}
-use Rattle.df_group.specs.Elements.{group_of, minus}
+use Rattle.df_group.specs.Elements.{group_of}
 use Rattle.df_group.proofs.PlaceSums.{AreBefore}
 use Rattle.df_group.proofs.places.sum.Given as goal
 

@@ -1,4 +1,4 @@
-use Rattle.std.proofs.Common.{◌≡◌, ◌≤◌, ℕ}
+use Rattle.std.proofs.Common.{◌≡◌, ℕ}
 use Rattle.df_lists.specs.NumberSets.{has_member}
 use Rattle.df_group.specs.Subgroups.{IsKept}
 use Rattle.df_group.proofs.Extensions.{is_reached}

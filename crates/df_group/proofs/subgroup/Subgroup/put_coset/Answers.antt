@@ -1,7 +1,6 @@
-use Rattle.std.proofs.Common.{◌≡◌, ◌&&◌, ◌||◌, eqb, eq-eqb, refl, sym, ap, ◌∙◌, arith}
+use Rattle.std.proofs.Common.{◌||◌, eqb, eq-eqb, refl, sym, ap, ◌∙◌, arith}
 use Rattle.std.proofs.lemmas.Bool.{or_left, or_right}
 use Rattle.std.specs.List.{list_any}
-use Rattle.df_lists.specs.LeastMembers.{any_below}
 use Rattle.df_lists.specs.NumberSets.{has_member, with_member}
 use Rattle.df_lists.proofs.SetLaws.{any_of_set}
 use Rattle.df_group.specs.Elements.{group_of, order_of}

@@ -1,5 +1,5 @@
 use Rattle.std.proofs.Common.{◌≡◌, arith, ap, sym, subst, length, ◌∙◌}
-use Rattle.df_lists.specs.NumberSets.{has_member, with_member, IsSet}
+use Rattle.df_lists.specs.NumberSets.{has_member, with_member}
 use Rattle.df_lists.proofs.RisingLists.{has_more, Rises-more}
 use Rattle.df_subsets.specs.Blocks.{IsBlock}
 use Rattle.df_subsets.proofs.BlockLaws.{length_more, set_is_block}

@@ -1,4 +1,4 @@
-use Rattle.std.proofs.Common.{◌≡◌, ◌++◌, ◌∷◌, [], length, ap, sym, subst, ◌∙◌, arith, lit<, append-nil, length-append}
+use Rattle.std.proofs.Common.{◌++◌, length, ap, subst, ◌∙◌, arith, lit<, length-append}
 use Rattle.df_lists.proofs.RisingLists.{length_fits}
 use Rattle.df_subsets.specs.Blocks.{IsBlock}
 use Rattle.df_subsets.proofs.block.Block.points.Goals as goal
