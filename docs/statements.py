@@ -5,10 +5,12 @@ statements.py    run at the top of the repository
 
 First the citations of lemmas of another crate that isn't among that crate's laws. A crate names its files of laws in the
 head of its src/lib.rt (or src/main.rt): `//! Laws for the rooms above: proofs/ONE, proofs/TWO.` A citation is a `use` line
-of a file of specs/, proofs/ or src/ that brings names from `Rattle.CRATE.proofs.FILE` of another crate of the repository.
+of a file of specs/, proofs/ or src/ that brings names from `Rattle.CRATE.proofs.FILE` of another crate of the repository, or a
+path `CRATE::proofs::FILE::LEMMA` in the attribute of a function.
 
 Then the statements that stand in two crates or more: the types of the lemmas in proofs/, public or not, and definitions with
-their clauses, with the bound variables renamed in the order in which they come. Lemmas inside a `where` aren't looked at.
+their clauses, with the bound variables renamed in the order in which they come. Lemmas inside a `where` aren't looked at, nor
+is a type that is only the signature of a definition (`.. → Type 0`, `.. → Bool`).
 """
 import collections, pathlib, re, sys
 
@@ -49,15 +51,17 @@ def citations(names):
     allowed = {crate: laws(crate) for crate in names}
     found = collections.defaultdict(list)
     line_form = re.compile(r"use Rattle\.(\w+)\.proofs\.([\w.]+?)\.?(?:\{([^}]*)\}|\s|;|$)")
+    path_form = re.compile(r"(\w+)::proofs::([\w:]+)::([\w-]+)")
     for crate in names:
         for path in files(crate, ("specs", "proofs", "src"), (".antt", ".rt")):
             for line in path.read_text().splitlines():
-                use = line_form.search(line)
-                if use is None or use.group(1) == crate or use.group(1) not in allowed:
-                    continue
-                file = use.group(2).replace(".", "/")
-                if file not in allowed[use.group(1)]:
-                    found[use.group(1), file].append((path, (use.group(3) or "").strip()))
+                used = line_form.search(line)
+                for use in [used] if used else path_form.finditer(line):
+                    if use.group(1) == crate or use.group(1) not in allowed:
+                        continue
+                    file = use.group(2).replace(".", "/").replace("::", "/")
+                    if file not in allowed[use.group(1)]:
+                        found[use.group(1), file].append((path, (use.group(3) or "").strip()))
     return found
 
 
@@ -128,7 +132,8 @@ def repeated(names):
     for crate in names:
         for path in files(crate, ("proofs",), (".antt",)):
             for name, line, text in statements(path):
-                if "→" in text or "≡" in text:
+                signature = " | " not in text and text.endswith(("→ Type 0", "→ Bool"))
+                if ("→" in text or "≡" in text) and not signature:
                     places[renamed(text)].append((crate, path, line, name))
     return {text: at for text, at in places.items() if len({crate for crate, *_ in at}) > 1}
 

@@ -1,15 +1,15 @@
 -- Images of sets of points.
 use Rattle.std.proofs.Common.{◌≡◌, ℕ, ◌<◌, true, map, List, length, sym, ap, ◌∙◌, subst, arith, eqb}
-use Rattle.std.specs.List.{range_with_len}
+use Rattle.std.specs.List.{range_with_len, list_any}
 use Rattle.df_lists.specs.Membership.{In}
 use Rattle.df_lists.specs.NumberSets.{has_member, set_of, IsSet}
 use Rattle.df_lists.proofs.MemberLaws.{In-map, In-map_gives, In-filter, In-filter_gives}
 use Rattle.df_lists.proofs.ListTotals.{count_agree}
 use Rattle.df_acting.specs.Classes.{IsMapGroup, IsSpread}
 use Rattle.df_acting.specs.Images.{image, holds}
-use Rattle.df_lists.proofs.TestLaws.{same_tests, all_from, all_gives, filter_agree, map_agree, map_fixed, has_from, has_gives}
+use Rattle.df_lists.proofs.TestLaws.{same_tests, all_from, all_gives, filter_agree, map_agree, map_fixed, has_from, has_gives, any_map}
 use Rattle.df_acting.proofs.ClassLaws.{permutes}
-pub use Rattle.df_lists.proofs.SetLaws.{In-points, In-points_gives, filter_is_set, In-set, sets_agree, range_once, numbers_equal}
+use Rattle.df_lists.proofs.SetLaws.{In-points, In-points_gives, filter_is_set, In-set, sets_agree, range_once, numbers_equal}
 
 -- the image under one function
 abbrev pub image_by : ℕ → (ℕ → ℕ) → List ℕ → List ℕ
@@ -102,3 +102,7 @@ module _ {M : Type 0} (act : M → ℕ → ℕ) (v : ℕ) (maps : List M) (G : I
     where
       down : (p : ℕ) → p < v → (o : ℕ) × In b o × (act g o ≡ act g p) → In b p
       down p k o = let h = G.back g i in subst (In b) (sym (h.2 o.0 (In-set v b o.0 r o.1)) ∙ ap (act h.0) o.2 ∙ h.2 p k) o.1
+
+-- a set with the points' images and no other points is the image
+pub image_done : (v : ℕ) (f : ℕ → ℕ) (b c : List ℕ) → IsSet v c → ((q : ℕ) → has_member c q ≡ list_any (λ p. eqb (f p) q) b) → c ≡ image_by v f b
+image_done v f b c is has = is ∙ filter_agree (has_member c) (has_member (map f b)) (range_with_len 0 v) (λ q i. has q ∙ sym (any_map (λ x. eqb x q) f b))

@@ -5,6 +5,7 @@ use Rattle.std.proofs.lemmas.Bool.{and_parts, cases_lt}
 use Rattle.df_lists.specs.Membership.{In, count}
 use Rattle.df_lists.specs.NumberSets.{IsSet}
 use Rattle.df_lists.proofs.MemberLaws.{In-filter_gives, count_none, count_gives}
+use Rattle.df_lists.proofs.ListTotals.{count_most}
 use Rattle.df_subsets.specs.Blocks.{before}
 use Rattle.df_subsets.specs.Subsets.{same_list}
 use Rattle.df_subsets.specs.SubsetLaws.{AreOrdered}
@@ -15,7 +16,6 @@ use Rattle.df_acting.proofs.EarliestLaws.{least_once}
 use Rattle.df_maps.proofs.SpreadLaws.{lists_equal}
 use Rattle.df_maps.specs.FullMaps.{MapGroup, full_maps, image}
 use Rattle.df_maps.specs.Laws.{AreGroup}
-use Rattle.df_maps.proofs.ProductLaws.{count_most}
 use Rattle.df_orbits.specs.OrbitClasses.{earliest_of}
 use Rattle.df_lang.specs.Problems.{Stated, point_count}
 use Rattle.df_kramer_mesner.specs.OrbitSystems.{maps_of_problem, alike}

@@ -1,10 +1,11 @@
 -- How many pairs and blocks there are.
-use Rattle.std.proofs.Common.{◌≡◌, ℕ, suc, ◌+◌, ◌-◌, ◌*◌, ◌≤◌, Bool, true, false, cond, ◌&&◌, ◌||◌, List, [], ◌∷◌, filter, length, refl, sym, ap, ap₂, ◌∙◌, inl, inr, arith, eqb, eqb-true, mul-le-mul}
+use Rattle.std.proofs.Common.{◌≡◌, ℕ, ◌+◌, ◌-◌, ◌*◌, ◌≤◌, Bool, true, false, cond, ◌&&◌, ◌||◌, List, [], ◌∷◌, filter, length, refl, sym, ap, ap₂, ◌∙◌, inl, inr, arith, eqb, eqb-true, mul-le-mul}
 use Rattle.std.specs.List.{list_any, sum_by}
 use Rattle.std.proofs.lemmas.List.Sums.{sum_by-cons}
 use Rattle.df_lists.specs.Membership.{In, count}
 use Rattle.df_lists.proofs.MemberLaws.{count_none}
 use Rattle.df_lists.proofs.TestLaws.{any_gives}
+use Rattle.df_lists.proofs.ListTotals.{count_whole}
 use Rattle.df_subsets.specs.Blocks.{Rises, before}
 use Rattle.df_subsets.specs.Subsets.{points, nonempty, candidates, binomial}
 use Rattle.df_subsets.specs.SetLaws.{AreSets}
@@ -18,15 +19,6 @@ use Rattle.df_lang.specs.Problems.{Stated, IsStated, point_count}
 use Rattle.df_kramer_mesner.specs.OrbitSystems.{maps_of_problem, all_pairs, all_blocks, alike}
 use Rattle.df_kramer_mesner.specs.Laws.{AreFew}
 use Rattle.df_kramer_mesner.proofs.OrbitBlocks.{block_sized, orbit_block, row_pair, stated_block, pair_points}
-
-pub count_few : {X : Type 0} (t : X → Bool) (xs : List X) → count t xs ≤ length xs
-count_few t [] = omega arith
-count_few t (x ∷ xs) =
-    let rest = count_few t xs in
-    elim (t x) as (λ b. length (cond b (x ∷ filter t xs) (filter t xs)) ≤ suc (length xs)) [
-      | true ↦ omega (arith, rest)
-      | false ↦ omega (arith, rest)
-    ]
 
 -- twice the pairs of n points are n times n - 1
 pub pairs_most : (n top less : ℕ) → n ≤ top → n - 1 ≤ less → binomial n 2 * 2 ≤ top * less
@@ -70,12 +62,12 @@ sizes_count all v low top (k ∷ ks) r =
 
 pub are_few : AreSets → SubsetsAreAll → CandidatesAreAll → (s : Stated) → IsStated s → AreFew s
 are_few sets all some s is = record {
-  pairs = let few = count_few (is_earliest before (image (maps_of_problem s)) (full_maps (maps_of_problem s))) (all_pairs s) in omega (arith, few, (all (point_count s) 2).long, pairs_most (point_count s) 128 127 is.points (omega (arith, is.points)));
+  pairs = let few = count_whole (is_earliest before (image (maps_of_problem s)) (full_maps (maps_of_problem s))) (all_pairs s) in omega (arith, few, (all (point_count s) 2).long, pairs_most (point_count s) 128 127 is.points (omega (arith, is.points)));
   pair = λ pair i. let r = (all (point_count s) 2).inside pair (row_pair s pair i) in pair_points (point_count s) pair r.0 r.1;
   orbit = λ b i. stated_block sets s b (block_sized all some s is b (orbit_block s b i));
   orbit_low = λ b i. (block_sized all some s is b (orbit_block s b i)).low;
   orbit_high = λ b i. (block_sized all some s is b (orbit_block s b i)).high;
   blocks = sizes_count all (point_count s) 0 17 s.sizes (sets.from_set 17 s.sizes is.sizes_rise);
-  entry = λ b pair. count_few (λ c. alike s c b && holds c pair) (all_blocks s);
-  class = λ b. count_few (λ c. alike s c b) (all_blocks s);
+  entry = λ b pair. count_whole (λ c. alike s c b && holds c pair) (all_blocks s);
+  class = λ b. count_whole (λ c. alike s c b) (all_blocks s);
 }

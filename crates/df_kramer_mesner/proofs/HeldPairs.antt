@@ -1,30 +1,14 @@
 -- The choices from a list that lie in a block are the choices from the block.
-use Rattle.std.proofs.Common.{◌≡◌, ℕ, suc, zero, Bool, true, false, cond, ◌&&◌, ◌++◌, map, filter, length, List, [], ◌∷◌, refl, sym, ap, ap₂, ◌∙◌}
+use Rattle.std.proofs.Common.{◌≡◌, ℕ, suc, zero, Bool, true, false, cond, ◌&&◌, ◌++◌, map, filter, List, [], ◌∷◌, refl, sym, ap, ap₂, ◌∙◌}
 use Rattle.std.proofs.lemmas.List.Elements.{filter-append}
+use Rattle.std.proofs.Math.Bool.{and_comm}
 use Rattle.df_lists.specs.Membership.{count}
 use Rattle.df_lists.specs.NumberSets.{has_member, IsSet}
 use Rattle.df_lists.proofs.ListTotals.{count_agree}
-use Rattle.df_walk.proofs.DecisionSplits.{and_comm}
-use Rattle.df_walk.proofs.VectorFilters.{filter-map}
+use Rattle.df_lists.proofs.TestLaws.{filter-map, filter_never}
+use Rattle.df_lists.proofs.MemberLaws.{count-filter}
 use Rattle.df_subsets.specs.Subsets.{choose, subsets, points}
 use Rattle.df_acting.specs.Images.{holds}
-
-filter_fails : {X : Type 0} (xs : List X) → filter (λ x. false) xs ≡ []
-filter_fails [] = refl
-filter_fails (x ∷ xs) = filter_fails xs
-
--- two tests in turn
-pub count-filter : {X : Type 0} (s t : X → Bool) (xs : List X) → count t (filter s xs) ≡ count (λ x. s x && t x) xs
-count-filter s t [] = refl
-count-filter s t (x ∷ xs) =
-    elim (s x) as (λ b. count t (cond b (x ∷ filter s xs) (filter s xs)) ≡ length (cond (b && t x) (x ∷ filter (λ x. s x && t x) xs) (filter (λ x. s x && t x) xs))) [
-      | true ↦ one_more (t x) (count-filter s t xs)
-      | false ↦ count-filter s t xs
-    ]
-  where
-    one_more : (c : Bool) → count t (filter s xs) ≡ count (λ x. s x && t x) xs → length (cond c (x ∷ filter t (filter s xs)) (filter t (filter s xs))) ≡ length (cond c (x ∷ filter (λ x. s x && t x) xs) (filter (λ x. s x && t x) xs))
-    one_more true e = ap suc e
-    one_more false e = e
 
 pub choose_held : (b ps : List ℕ) (k : ℕ) → filter (holds b) (choose ps k) ≡ choose (filter (has_member b) ps) k
 choose_held b ps zero = refl
@@ -36,7 +20,7 @@ choose_held b (p ∷ ps) (suc k) =
   where
     front : (t : Bool) → filter (holds b) (choose ps k) ≡ choose (filter (has_member b) ps) k → map (λ c. p ∷ c) (filter (λ c. t && holds b c) (choose ps k)) ++ choose (filter (has_member b) ps) (suc k) ≡ choose (cond t (p ∷ filter (has_member b) ps) (filter (has_member b) ps)) (suc k)
     front true rest = ap (λ l. map (λ c. p ∷ c) l ++ choose (filter (has_member b) ps) (suc k)) rest
-    front false rest = ap (λ l. map (λ c. p ∷ c) l ++ choose (filter (has_member b) ps) (suc k)) (filter_fails (choose ps k))
+    front false rest = ap (λ l. map (λ c. p ∷ c) l ++ choose (filter (has_member b) ps) (suc k)) (filter_never (choose ps k))
 
 -- the chosen of all points that pass a test and lie in a block
 pub held_count : (v k : ℕ) (t : List ℕ → Bool) (b : List ℕ) → IsSet v b → count (λ p. t p && holds b p) (subsets v k) ≡ count t (choose b k)

@@ -3,6 +3,7 @@ use Rattle.std.proofs.Common.{◌≡◌, ℕ, ◌≤◌, List, [], ◌∷◌, le
 use Rattle.df_lists.specs.Membership.{In}
 use Rattle.df_lists.proofs.MemberLaws.{In-filter_gives}
 use Rattle.df_lists.proofs.TestLaws.{has_from}
+use Rattle.df_lists.proofs.ListPlaces.{all_members}
 use Rattle.df_subsets.specs.Blocks.{before, Rises}
 use Rattle.df_subsets.specs.Blocks as subsets
 use Rattle.df_subsets.specs.SetLaws.{AreSets}
@@ -12,7 +13,6 @@ use Rattle.df_maps.specs.FullMaps.{full_maps, image}
 use Rattle.df_lang.specs.Problems.{Stated, IsStated, IsSize, IsBlock, point_count}
 use Rattle.df_kramer_mesner.specs.OrbitSystems.{maps_of_problem, all_pairs, all_blocks, pairs_of, orbits_of}
 use Rattle.df_kramer_mesner.specs.Laws.{IsPair}
-use Rattle.df_kramer_mesner.proofs.ProblemMaps.{all_members}
 
 -- what a block of all is: a block of one of the stated sizes
 pub record IsSized (s : Stated) (b : List ℕ) : Type 0 where

@@ -1,30 +1,26 @@
 -- The numbers of orbits and columns, and the entries of the system.
-use Rattle.std.proofs.Common.{◌≡◌, ℕ, zero, suc, ◌+◌, ◌<◌, Bool, true, false, cond, map, List, [], ◌∷◌, length, get_or, refl, sym, ap, ◌∙◌, subst, arith, Option, Some, None, inl, inr, slice_get}
+use Rattle.std.proofs.Common.{◌≡◌, ℕ, suc, ◌+◌, ◌<◌, Bool, true, false, cond, map, List, [], ◌∷◌, length, refl, sym, ap, ◌∙◌, subst, arith, Some, None, inl, inr, slice_get}
 use Rattle.std.proofs.lemmas.List.{length-map, get_or-map}
 use Rattle.std.proofs.lemmas.Option.{same_Some}
+use Rattle.df_system.proofs.PositiveCells.{entry_of-positive_cells}
 use Rattle.df_lists.specs.Membership.{In}
 use Rattle.df_lists.specs.Orders.{IsSorted}
 use Rattle.df_lists.proofs.MemberLaws.{In-filter, In-filter_gives}
 use Rattle.df_lists.proofs.TestLaws.{has_gives}
+use Rattle.df_lists.proofs.ListPlaces.{In-slice_get}
+use Rattle.df_lists.proofs.SortedLists.{sorted-filter}
 use Rattle.df_subsets.specs.Blocks.{before}
 use Rattle.df_subsets.specs.Subsets.{place_of}
 use Rattle.df_subsets.specs.SetLaws.{AreSets}
 use Rattle.df_maps.specs.Laws.{AreGroup}
 use Rattle.df_lang.specs.Problems.{Stated, IsStated, IsBlock, point_count}
 use Rattle.df_orbits.specs.Laws.{AreRepresentatives, RepresentativesTellOrbits, PlacesAreFound}
-use Rattle.df_orbits.proofs.ClassNumbers.{sorted-filter}
 use Rattle.df_walk.specs.Systems.{entry, entry_of}
 use Rattle.df_kramer_mesner.specs.OrbitSystems.{maps_of_problem, orbits_of, columns_of, targets_of, is_kept, entries_of, cells_of, entry_at, column_at, column_number, orbit_system}
 use Rattle.df_kramer_mesner.specs.Laws.{AreNumbered}
 use Rattle.df_kramer_mesner.proofs.RowLists.{are_rows}
-use Rattle.df_kramer_mesner.proofs.ToldCells.{positive_entry}
 
--- an element of a list is a member, and a member stands somewhere
-pub In-slice_get : {X : Type 0} (xs : List X) (i : ℕ) (x : X) → slice_get xs i ≡ Some x → In xs x
-In-slice_get [] i x e = absurd (let f = e in cc)
-In-slice_get (y ∷ ys) zero x e = inl (same_Some y x e)
-In-slice_get (y ∷ ys) (suc i) x e = inr (In-slice_get ys i x e)
-
+-- a member stands somewhere
 pub In-get : {X : Type 0} (xs : List X) (x : X) → In xs x → (k : ℕ) × (slice_get xs k ≡ Some x)
 In-get [] x i = absurd i
 In-get (y ∷ xs) x (inl e) = (0, ap Some e)
@@ -65,7 +61,7 @@ module _ (sets : AreSets) (tell : RepresentativesTellOrbits) (found : PlacesAreF
 pub entry_found : (s : Stated) (b : List ℕ) (row : ℕ) → row < length (targets_of s) → entry_of (cells_of s b) row ≡ entry_at s row b
 entry_found s b row h =
     let rows = are_rows s b in
-    ap (entry_of (cells_of s b)) {x = row} {y = 0 + row} (omega arith) ∙ positive_entry 0 row (entries_of s b) (omega (arith, h, rows.entries, rows.targets))
+    ap (entry_of (cells_of s b)) {x = row} {y = 0 + row} (omega arith) ∙ entry_of-positive_cells 0 row (entries_of s b)
 
 -- so the entries of the system are those of the definition
 pub entry_counted : (s : Stated) (row column : ℕ) → row < length (targets_of s) → column < length (columns_of s) → entry (orbit_system s) row column ≡ entry_at s row (column_at s column)

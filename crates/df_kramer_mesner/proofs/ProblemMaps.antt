@@ -1,8 +1,8 @@
 -- The maps of a problem are a group, of points and of blocks.
-use Rattle.std.proofs.Common.{suc, List, [], ◌∷◌, All, subst, inl, inr, arith}
+use Rattle.std.proofs.Common.{[], All}
 use Rattle.std.specs.List.{range_with_len}
-use Rattle.df_lists.specs.Membership.{In}
 use Rattle.df_lists.specs.NumberSets.{IsSet}
+use Rattle.df_lists.proofs.ListPlaces.{all_members}
 use Rattle.df_group.specs.Elements.{order_of}
 use Rattle.df_group.specs.Subgroups.{IsSubgroup}
 use Rattle.df_group.proofs.SubgroupLaws.{are_subgroups}
@@ -17,12 +17,6 @@ use Rattle.df_lang.specs.declared.parts.Which.TheVariants as which
 use Rattle.df_lang.specs.Problems.{Stated, IsStated, IsWord, IsMultiplier, point_count}
 use Rattle.df_lang.specs.Targets.{subgroup_at}
 use Rattle.df_kramer_mesner.specs.OrbitSystems.{maps_of_problem, all_pairs, all_blocks}
-
--- what is true of each place is true of each member
-pub all_members : {X : Type 0} (P : X → Type 0) (xs : List X) → All P xs → (x : X) → In xs x → P x
-all_members P [] all x i = absurd i
-all_members P (y ∷ ys) all x (inl e) = subst P e (all 0 x (omega arith))
-all_members P (y ∷ ys) all x (inr i) = all_members P ys (λ k d l. all (suc k) d (omega (arith, l))) x i
 
 -- what a word of a statement names is a subgroup
 pub word_subgroup : (s : Stated) → IsStated s → (word : Which) → IsWord s.names word → IsSubgroup s.group (subgroup_at s word)

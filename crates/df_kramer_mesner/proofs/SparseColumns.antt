@@ -5,9 +5,10 @@ use Rattle.std.specs.List.{list_any}
 use Rattle.std.proofs.lemmas.Bool.{ltb-true, cases_lt}
 use Rattle.df_lists.specs.Membership.{In, count}
 use Rattle.df_lists.specs.NumberSets.{IsSet}
-use Rattle.df_lists.proofs.ListTotals.{count_agree}
+use Rattle.df_lists.proofs.ListTotals.{count_agree, count_most}
 use Rattle.df_lists.proofs.MemberLaws.{In-filter_gives, count-append, count-map, count_gives}
 use Rattle.df_lists.proofs.TestLaws.{any_from}
+use Rattle.df_lists.proofs.ListPlaces.{all_members}
 use Rattle.df_subsets.specs.Blocks.{before}
 use Rattle.df_subsets.specs.Subsets.{choose, points, same_list}
 use Rattle.df_subsets.specs.SetLaws.{AreSets}
@@ -17,12 +18,11 @@ use Rattle.df_acting.specs.Earliest.{is_earliest}
 use Rattle.df_acting.specs.Images.{holds}
 use Rattle.df_maps.specs.FullMaps.{full_maps, image}
 use Rattle.df_maps.specs.Laws.{AreGroup}
-use Rattle.df_maps.proofs.ProductLaws.{count_most}
 use Rattle.df_system.specs.Storage.{positive_cells}
 use Rattle.df_lang.specs.Problems.{Stated, IsStated, IsBlock, point_count}
 use Rattle.df_kramer_mesner.specs.OrbitSystems.{maps_of_problem, all_pairs, all_blocks, alike, has_alike, pairs_of, orbits_of, needed_of, pair_entry, needed_entry, entries_of, pairs_within, row_size, orbit_size}
 use Rattle.df_kramer_mesner.specs.Laws.{AreSparse}
-use Rattle.df_kramer_mesner.proofs.ProblemMaps.{all_members, pairs_spread, blocks_spread}
+use Rattle.df_kramer_mesner.proofs.ProblemMaps.{pairs_spread, blocks_spread}
 use Rattle.df_kramer_mesner.proofs.HeldPairs.{choose_held}
 use Rattle.df_kramer_mesner.proofs.EntryQuotients.{is_quotient}
 use Rattle.df_kramer_mesner.proofs.OrbitBlocks.{orbit_block, row_pair}

@@ -1,5 +1,5 @@
 -- Cells in the order of their rows are told by the entries of the rows.
-use Rattle.std.proofs.Common.{◌≡◌, ℕ, suc, zero, ◌+◌, ◌<◌, ◌≤◌, cond, List, [], ◌∷◌, length, get_or, refl, sym, ap, ap₂, ◌∙◌, arith, ⊎_elim}
+use Rattle.std.proofs.Common.{◌≡◌, ℕ, suc, ◌+◌, ◌<◌, ◌≤◌, cond, List, [], ◌∷◌, length, get_or, refl, sym, ap, ap₂, ◌∙◌, arith, ⊎_elim}
 use Rattle.std.proofs.lemmas.Bool.{lt-ltb, le-ltb, eq-eqb, ne_eqb, cases_eq}
 use Rattle.df_walk.specs.declared.Cell.{Cell}
 use Rattle.df_walk.specs.Systems.{AreCells, entry_of}
@@ -73,23 +73,3 @@ told_from low rows (value ∷ entries) (cell ∷ cells) e r h =
 
 pub cells_told : (rows : ℕ) (cells : List Cell) (entries : List ℕ) → length entries ≡ rows → AreCells rows cells → ((row : ℕ) → row < rows → entry_of cells row ≡ get_or entries row 0) → cells ≡ positive_cells 0 entries
 cells_told rows cells entries long are h = told_from 0 rows entries cells (omega (arith, long)) (all_rise rows cells are) (λ i l. ap (entry_of cells) {x = 0 + i} {y = i} (omega arith) ∙ h i (omega (arith, l, long)))
-
-positive_absent : (m row : ℕ) (es : List ℕ) → row < m → entry_of (positive_cells m es) row ≡ 0
-positive_absent m row [] h = refl
-positive_absent m row (zero ∷ es) h = positive_absent (m + 1) row es (omega (arith, h))
-positive_absent m row (suc e ∷ es) h = positive_one (positive_absent (m + 1) row es (omega (arith, h)))
-  where
-    positive_one : entry_of (positive_cells (m + 1) es) row ≡ 0 → entry_of (positive_cells m (suc e ∷ es)) row ≡ 0
-    positive_one ih = rw (lt-ltb 0 (suc e) (omega arith)) (rw (ne_eqb m row (λ e. absurd (omega (arith, e, h)))) (omega (arith, ih)))
-
--- the entry of a row is found among the positive ones
-pub positive_entry : (m i : ℕ) (es : List ℕ) → i < length es → entry_of (positive_cells m es) (m + i) ≡ get_or es i 0
-positive_entry m i [] h = absurd (omega (arith, h))
-positive_entry m zero (zero ∷ es) h = positive_absent (m + 1) (m + 0) es (omega arith)
-positive_entry m zero (suc e ∷ es) h =
-    let rest = positive_absent (m + 1) (m + 0) es (omega arith) in
-    rw (lt-ltb 0 (suc e) (omega arith)) (rw (eq-eqb m (m + 0) (omega arith)) (omega (arith, rest)))
-positive_entry m (suc i) (zero ∷ es) h = ap (entry_of (positive_cells (m + 1) es)) {x = m + suc i} {y = m + 1 + i} (omega arith) ∙ positive_entry (m + 1) i es (omega (arith, h))
-positive_entry m (suc i) (suc e ∷ es) h =
-    let rest = ap (entry_of (positive_cells (m + 1) es)) {x = m + suc i} {y = m + 1 + i} (omega arith) ∙ positive_entry (m + 1) i es (omega (arith, h)) in
-    rw (lt-ltb 0 (suc e) (omega arith)) (rw (ne_eqb m (m + suc i) (λ x. absurd (omega (arith, x)))) (omega (arith, rest)))

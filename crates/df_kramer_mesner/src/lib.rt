@@ -1,6 +1,8 @@
 //! The orbit system of a problem, by Kramer and Mesner: its rows, orbits, entries and columns, and what is true of them.
 //! It stands on df_lang, for problems and targets, on df_orbits, for orbits, and on df_system, for cells; it has no code that runs: the contract of each public function is a law, and its body is empty but for the laws below that it follows from.
 //! The crates above cite the words of specs/OrbitSystems.antt, which are stated by lists, counts and single maps alone.
+//! Laws for the rooms above: proofs/EntryQuotients, proofs/KeptOrbits, proofs/OrbitBlocks, proofs/OrbitNumbers,
+//! proofs/ProblemMaps, proofs/RowLists.
 #![tactic(auto)]
 
 ghost use Rattle.df_kramer_mesner.specs.Laws.{EntriesAreQuotients, OrbitSystemsAreSystems, CellsAreTold, RowsArePairsAndNeeded, OrbitsAreKept, NumbersAreFew, ColumnsAreSparse, EntriesAreCounts, OrbitsAreNumbered};

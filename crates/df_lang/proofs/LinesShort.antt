@@ -8,6 +8,7 @@ use Rattle.std.proofs.lemmas.Map.Keys.{IsDistinct-from_apart}
 use Rattle.std.proofs.lemmas.Map.Steps.{length-le_from_distinct_below}
 use Rattle.df_io.specs.Joined.{Each, spaced}
 use Rattle.df_lists.specs.NumberSets.{has_member, IsSet}
+use Rattle.df_lists.proofs.SetLaws.{set_long}
 use Rattle.df_group.specs.Elements.{IsFactor, IsShape}
 use Rattle.df_group.specs.Subgroups.{canonical_of}
 use Rattle.df_group.proofs.ExponentLaws.{exponent_high}
@@ -22,7 +23,7 @@ use Rattle.df_lang.specs.Canonical.{element_text, point_text, which_text, number
 use Rattle.df_lang.specs.Separated.{each_after}
 use Rattle.df_lang.proofs.EachAfter.{join_after}
 use Rattle.df_lang.proofs.EachMember.{each_from, each_so}
-use Rattle.df_lang.proofs.SetsBelow.{set_below, set_few}
+use Rattle.df_lang.proofs.SetsBelow.{set_below}
 use Rattle.df_lang.proofs.Lengths.{IsShort, after_short, numbers_short, element_short, points_short}
 
 -- a line of a keyword and other tokens
@@ -62,7 +63,7 @@ module _ (fs ms : List ℕ) (is : IsShape fs) (each : All (IsMultiplier fs) ms) 
 pub sizes_short : (ks : List ℕ) → IsSet 17 ks → length (spaced (codes "k" ∷ map decimal ks)) < 1024
 sizes_short ks is =
     let small = each_so (λ k. k < 17) (λ k. k < 1000) ks (λ k h. omega (arith, h)) (set_below 17 ks is) in
-    omega (arith, tokens_short (codes "k") 3 (map decimal ks) (numbers_short ks small), length-map ks decimal, set_few 17 ks is)
+    omega (arith, tokens_short (codes "k") 3 (map decimal ks) (numbers_short ks small), length-map ks decimal, set_long 17 ks is)
 
 -- a subgroup name
 le_true : (k : ℕ) (u w : Bool) → leb k 16 && u && w ≡ true → k ≤ 16

@@ -1,7 +1,7 @@
 -- The source of a problem's canonical lines, read back.
-use Rattle.std.proofs.Common.{◌≡◌, ℕ, ◌+◌, ◌-◌, ◌^◌, ◌<◌, ◌≤◌, Bool, true, false, cond, eqb, ltb, List, [], ◌∷◌, ◌++◌, length, length-append, map, get_or, zero, suc, unwrap_or, take, Option, Some, None, IfSome, Ok, Err, Result, decimal, codes, inl, inr, refl, ap, ◌∙◌, arith, tests, ◌&&◌}
+use Rattle.std.proofs.Common.{◌≡◌, ℕ, ◌+◌, ◌-◌, ◌^◌, ◌<◌, ◌≤◌, true, false, cond, eqb, ltb, List, [], ◌∷◌, ◌++◌, length, length-append, map, get_or, zero, suc, unwrap_or, take, Option, Some, None, IfSome, Ok, Err, Result, decimal, codes, inl, inr, refl, ap, ◌∙◌, arith, tests}
 use Rattle.std.specs.List.{join_with_byte, list_any, list_all}
-use Rattle.std.proofs.lemmas.Bool.{cases_lt}
+use Rattle.std.proofs.lemmas.Bool.{cases_lt, and_parts}
 use Rattle.std.proofs.lemmas.Fmt.{decimal_nonempty}
 use Rattle.std.proofs.lemmas.List.{length-map}
 use Rattle.df_io.specs.Lines.{tokens_of, is_blank, is_hash}
@@ -103,11 +103,6 @@ points_inked fs [] is small = tt
 points_inked fs (p ∷ ps) is small = (point_inked fs p is small.0, points_inked fs ps is small.1)
 
 -- names
-both : (a b : Bool) → (a && b) ≡ true → (a ≡ true) × (b ≡ true)
-both true true e = (refl, refl)
-both true false e = absurd cc
-both false b e = absurd cc
-
 name_byte_high : (b : ℕ) → is_name_byte b ≡ true → 47 < b
 name_byte_high b h =
     elim (cases_lt 47 b) [
@@ -117,7 +112,7 @@ name_byte_high b h =
 
 name_bytes_high : (bs : List ℕ) → list_all is_name_byte bs ≡ true → Each (λ b. 47 < b) bs
 name_bytes_high [] h = tt
-name_bytes_high (b ∷ bs) h = let parts = both (is_name_byte b) (list_all is_name_byte bs) h in (name_byte_high b parts.0, name_bytes_high bs parts.1)
+name_bytes_high (b ∷ bs) h = let parts = and_parts (is_name_byte b) (list_all is_name_byte bs) h in (name_byte_high b parts.0, name_bytes_high bs parts.1)
 
 first_some : (bs : List ℕ) → list_any is_letter (take 1 bs) ≡ true → 0 < length bs
 first_some [] h = absurd cc
@@ -125,8 +120,8 @@ first_some (b ∷ bs) h = omega arith
 
 name_inked : (fs : List ℕ) (n : Named) → IsNamed fs n → IsInked n.0
 name_inked fs n is =
-    let outer = both _ (list_all is_name_byte n.0) is.name in
-    let inner = both _ (list_any is_letter (take 1 n.0)) outer.0 in
+    let outer = and_parts _ (list_all is_name_byte n.0) is.name in
+    let inner = and_parts _ (list_any is_letter (take 1 n.0)) outer.0 in
     inked_from n.0 (first_some n.0 inner.1) (name_bytes_high n.0 outer.1)
 
 named_inked : (fs : List ℕ) (names : List Named) (i : ℕ) → i < length names → Each (IsNamed fs) names → IsInked (get_or names i ([], [])).0

@@ -1,8 +1,8 @@
 -- Members of lists that are made from lists.
-use Rattle.std.proofs.Common.{◌≡◌, ℕ, suc, zero, ◌+◌, ◌<◌, ◌≤◌, Bool, true, false, cond, ◌++◌, map, List, [], ◌∷◌, length, filter, refl, sym, ap, ◌∙◌, inl, inr, ◌⊎◌, arith, ⊎_elim, subst, length-append}
+use Rattle.std.proofs.Common.{◌≡◌, ℕ, suc, zero, ◌+◌, ◌<◌, ◌≤◌, Bool, true, false, cond, ◌++◌, map, List, [], ◌∷◌, length, filter, refl, sym, ap, ◌∙◌, inl, inr, ◌⊎◌, arith, ⊎_elim, subst, length-append, ◌&&◌}
 use Rattle.std.proofs.lemmas.Bool.{cases_eq}
 use Rattle.std.proofs.lemmas.List.Elements.{filter-append}
-use Rattle.std.specs.List.{flat_map, range_with_len}
+use Rattle.std.specs.List.{flat_map, range_with_len, AllByRecursion}
 use Rattle.df_lists.specs.Membership.{In, count}
 
 pub In-append_cases : {X : Type 0} (xs ys : List X) (x : X) → In (xs ++ ys) x → In xs x ⊎ In ys x
@@ -98,3 +98,21 @@ count_some t (y ∷ xs) x (inr i) h =
       | true ↦ omega arith
       | false ↦ more
     ]
+
+-- two tests in turn
+pub count-filter : {X : Type 0} (s t : X → Bool) (xs : List X) → count t (filter s xs) ≡ count (λ x. s x && t x) xs
+count-filter s t [] = refl
+count-filter s t (x ∷ xs) =
+    elim (s x) as (λ b. count t (cond b (x ∷ filter s xs) (filter s xs)) ≡ length (cond (b && t x) (x ∷ filter (λ x. s x && t x) xs) (filter (λ x. s x && t x) xs))) [
+      | true ↦ one_more (t x) (count-filter s t xs)
+      | false ↦ count-filter s t xs
+    ]
+  where
+    one_more : (c : Bool) → count t (filter s xs) ≡ count (λ x. s x && t x) xs → length (cond c (x ∷ filter t (filter s xs)) (filter t (filter s xs))) ≡ length (cond c (x ∷ filter (λ x. s x && t x) xs) (filter (λ x. s x && t x) xs))
+    one_more true e = ap suc e
+    one_more false e = e
+
+-- what is true of the members of both lists is true of those of their join
+pub AllByRecursion-append : {X : Type 0} (P : X → Type 0) (xs ys : List X) → AllByRecursion P xs → AllByRecursion P ys → AllByRecursion P (xs ++ ys)
+AllByRecursion-append P [] ys a b = b
+AllByRecursion-append P (x ∷ xs) ys a b = (a.0, AllByRecursion-append P xs ys a.1 b)

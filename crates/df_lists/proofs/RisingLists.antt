@@ -1,7 +1,8 @@
 -- Lists that rise strictly: their members, one member more, other bounds.
-use Rattle.std.proofs.Common.{◌≡◌, ℕ, suc, zero, ◌+◌, ◌<◌, ◌≤◌, Bool, true, false, cond, ◌||◌, List, [], ◌∷◌, length, filter, refl, sym, ap, ◌∙◌, inl, inr, ◌⊎◌, arith, eqb, eq-eqb, ne_eqb, lt-ltb, le-ltb, get_or}
+use Rattle.std.proofs.Common.{◌≡◌, ℕ, suc, zero, ◌+◌, ◌<◌, ◌≤◌, Bool, true, false, cond, ◌||◌, List, [], ◌∷◌, length, filter, refl, sym, ap, ◌∙◌, inl, inr, ◌⊎◌, arith, eqb, eq-eqb, ne_eqb, lt-ltb, le-ltb, get_or, ◌-◌, subst}
 use Rattle.std.proofs.lemmas.Bool.{cases_order}
 use Rattle.std.specs.List.{range_with_len}
+use Rattle.std.specs.List.Sorted.{IsStrictlyIncreasing}
 use Rattle.df_lists.specs.Membership.{In}
 use Rattle.df_lists.specs.NumberSets.{has_member, with_member, Rises}
 
@@ -81,3 +82,14 @@ pub point_below : (low v : ℕ) (b : List ℕ) (i d : ℕ) → Rises low v b →
 point_below low v [] i d r h = absurd (omega arith)
 point_below low v (p ∷ b) zero d r h = r.1
 point_below low v (p ∷ b) (suc i) d r h = point_below (p + 1) v b i d r.2 (omega arith)
+
+steps_rise : (xs : List ℕ) (i n : ℕ) → IsStrictlyIncreasing xs → i + n < length xs → get_or xs i 0 ≤ get_or xs (i + n) 0
+steps_rise xs i zero up h = let e : i + zero ≡ i = omega arith in rw e (omega arith)
+steps_rise xs i (suc n) up h =
+    let e : i + n + 1 ≡ i + suc n = omega arith in
+    let step = rw e at (up (i + n) (omega arith)) in
+    omega (arith, steps_rise xs i n up (omega arith))
+
+-- numbers that increase don't fall
+pub increasing_order : (xs : List ℕ) → IsStrictlyIncreasing xs → (i j : ℕ) → i ≤ j → j < length xs → get_or xs i 0 ≤ get_or xs j 0
+increasing_order xs up i j low high = let e : i + (j - i) ≡ j = omega arith in subst (λ k. get_or xs i 0 ≤ get_or xs k 0) e (steps_rise xs i (j - i) up (omega arith))

@@ -11,8 +11,8 @@ use Rattle.df_lists.proofs.RangeLaws.{filter_more}
 use Rattle.df_lists.proofs.LeastLaws.{any_from as any_below_from, any_found}
 use Rattle.df_lists.proofs.TestLaws.{same_tests, any_from, any_gives, has_from, has_gives, filter_agree}
 use Rattle.std.proofs.lemmas.List.FromFn.{length-range_with_len, get_or-range_with_len}
-use Rattle.std.proofs.lemmas.List.Kept.{IsStrictlyIncreasing-filter}
 use Rattle.std.specs.List.Sorted.{IsStrictlyIncreasing}
+use Rattle.std.proofs.lemmas.List.Kept.{IsStrictlyIncreasing-filter}
 use Rattle.df_lists.specs.Orders.{IsEquality}
 use Rattle.df_lists.proofs.ListTotals.{count_whole}
 
@@ -119,11 +119,11 @@ range_once a (suc n) p h k = ⊎_elim (λ e. here e) (λ ne. there ne (range_onc
 pub numbers_equal : IsEquality eqb
 numbers_equal = record { same = eqb-true; self = λ x. eq-eqb x x refl }
 
-range_increases : (n : ℕ) → IsStrictlyIncreasing (range_with_len 0 n)
-range_increases n k h =
+range_rises : (n : ℕ) → IsStrictlyIncreasing (range_with_len 0 n)
+range_rises n k h =
     let long = length-range_with_len 0 n in
     omega (arith, get_or-range_with_len 0 n k 0 (omega (arith, h, long)), get_or-range_with_len 0 n (k + 1) 0 (omega (arith, h, long)))
 
 -- a set of numbers is written in increasing order
-pub set_increases : (n : ℕ) (set : List ℕ) → IsSet n set → IsStrictlyIncreasing set
-set_increases n set is = subst IsStrictlyIncreasing (sym is) (IsStrictlyIncreasing-filter (has_member set) (range_with_len 0 n) (range_increases n))
+pub set_rises : (n : ℕ) (set : List ℕ) → IsSet n set → IsStrictlyIncreasing set
+set_rises n set is = subst IsStrictlyIncreasing (sym is) (IsStrictlyIncreasing-filter (has_member set) (range_with_len 0 n) (range_rises n))

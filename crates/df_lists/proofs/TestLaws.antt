@@ -1,7 +1,9 @@
 -- Tests over the members of lists, and what a test picks.
-use Rattle.std.proofs.Common.{◌≡◌, ℕ, Bool, true, false, cond, ◌&&◌, List, [], ◌∷◌, map, filter, refl, sym, ap, ◌∙◌, subst, inl, inr, ◌⊎◌, eqb, eq-eqb, eqb-true}
+use Rattle.std.proofs.Common.{◌≡◌, ℕ, Bool, true, false, cond, ◌&&◌, List, [], ◌∷◌, map, filter, refl, sym, ap, ◌∙◌, subst, inl, inr, ◌⊎◌, eqb, eq-eqb, eqb-true, ◌||◌, ◌+◌, ◌<◌, length, take, get_or}
 use Rattle.std.specs.List.{list_any, list_all}
 use Rattle.std.proofs.lemmas.Bool.{false≢true, or_cases, or_left, or_right, and_parts, and_from}
+use Rattle.std.proofs.lemmas.List.{take_more}
+use Rattle.std.proofs.lemmas.List.Folds.{list_any-append}
 use Rattle.df_lists.specs.Membership.{In}
 use Rattle.df_lists.specs.NumberSets.{has_member}
 
@@ -71,3 +73,20 @@ filter-map p f (x ∷ xs) =
 pub filter_fails : {X : Type 0} (t : X → Bool) (xs : List X) → ((x : X) → In xs x → t x ≡ false) → filter t xs ≡ []
 filter_fails t [] h = refl
 filter_fails t (x ∷ xs) h = rw (h x (inl refl)) (filter_fails t xs (λ y i. h y (inr i)))
+
+-- a test that none passes
+pub filter_never : {X : Type 0} (xs : List X) → filter (λ x. false) xs ≡ []
+filter_never [] = refl
+filter_never (x ∷ xs) = filter_never xs
+
+pub any_map : {X Y : Type 0} (t : Y → Bool) (f : X → Y) (xs : List X) → list_any t (map f xs) ≡ list_any (λ x. t (f x)) xs
+any_map t f [] = refl
+any_map t f (x ∷ xs) = ap (λ b. t (f x) || b) (any_map t f xs)
+
+-- a test over one more of the first members
+pub any_take_more : {X : Type 0} (t : X → Bool) (xs : List X) (i : ℕ) (d : X) → i < length xs → list_any t (take (i + 1) xs) ≡ (list_any t (take i xs) || t (get_or xs i d))
+any_take_more t xs i d h = ap (list_any t) (take_more xs i d h) ∙ list_any-append t (take i xs) (get_or xs i d ∷ []) ∙ ap (λ b. list_any t (take i xs) || b) (or_none (t (get_or xs i d)))
+  where
+    or_none : (b : Bool) → (b || false) ≡ b
+    or_none true = refl
+    or_none false = refl

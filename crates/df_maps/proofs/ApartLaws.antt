@@ -3,16 +3,17 @@ use Rattle.std.proofs.Common.{◌≡◌, ℕ, suc, zero, ◌+◌, ◌-◌, ◌*�
 use Rattle.std.proofs.Math.Nat.{div-add-mod', mul-mod_left, mul-sub}
 use Rattle.std.proofs.lemmas.Bool.{cases_lt}
 use Rattle.df_lists.specs.Membership.{In}
+use Rattle.df_lists.proofs.SetLaws.{In-set}
+use Rattle.df_lists.proofs.ListPlaces.{In-get_or}
 use Rattle.df_group.specs.Elements.{group_of, order_of, IsElement, IsFactor, residues, number, multiple_of}
 use Rattle.df_group.specs.Subgroups.{exponent_of}
 use Rattle.df_group.proofs.ElementLaws.{ArePositive, positive_shape, is_group, order_some, residues_number, number_within, multiples_are}
 use Rattle.df_group.proofs.GroupLaws.{zero_plus, plus_apart}
 use Rattle.df_group.proofs.ExponentLaws.{exponent_least}
 use Rattle.df_group.proofs.MultipleLaws.{are_multiples}
-use Rattle.df_acting.proofs.ImageLaws.{In-set}
 use Rattle.df_maps.specs.FullMaps.{MapGroup, IsMaps, carried, point_count, full_maps, map_number}
 use Rattle.df_maps.proofs.NumberLaws.{length-pairs, row_below}
-use Rattle.df_maps.proofs.SetLists.{set_apart, In-get_or}
+use Rattle.df_maps.proofs.SetLists.{set_apart}
 use Rattle.df_maps.proofs.GroupOfMaps.{moved_low, times_zero}
 
 -- the element whose residues are all 1

@@ -15,7 +15,7 @@ use Rattle.df_group.proofs.UnitLaws.{IsUndone, unit_undone}
 use Rattle.df_group.proofs.MultipleLaws.{are_multiples}
 use Rattle.df_acting.specs.Classes.{IsMapGroup}
 use Rattle.df_lists.proofs.TestLaws.{has_from, has_gives}
-use Rattle.df_acting.proofs.ImageLaws.{In-set, In-points, numbers_equal}
+use Rattle.df_lists.proofs.SetLaws.{In-set, In-points, numbers_equal}
 use Rattle.df_acting.proofs.OntoLists.{onto}
 use Rattle.df_maps.specs.FullMaps.{MapGroup, IsMaps, moved, carried, point_count, full_maps, map_number}
 use Rattle.df_maps.proofs.NumberLaws.{In-pairs, In-pairs_gives, length-pairs, pairs_numbered}

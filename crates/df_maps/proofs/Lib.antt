@@ -2,7 +2,6 @@ pub mod ApartLaws
 pub mod FilterSteps
 pub mod FixingCounts
 pub mod GroupOfMaps
-pub mod ImageSteps
 pub mod KeptLaws
 pub mod LoopSteps
 pub mod MadeLaws

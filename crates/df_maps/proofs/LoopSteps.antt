@@ -8,7 +8,7 @@ use Rattle.df_lists.proofs.RangeLaws.{range_more}
 use Rattle.df_lists.proofs.MemberLaws.{count-append}
 use Rattle.df_acting.specs.Earliest.{earliest}
 use Rattle.df_lists.proofs.TestLaws.{all_gives}
-use Rattle.df_acting.proofs.ImageLaws.{In-points}
+use Rattle.df_lists.proofs.SetLaws.{In-points}
 
 all-append : {X : Type 0} (t : X → Bool) (xs ys : List X) → list_all t (xs ++ ys) ≡ (list_all t xs && list_all t ys)
 all-append t [] ys = refl
@@ -21,10 +21,6 @@ all-append t (x ∷ xs) ys = ap (λ b. t x && b) (all-append t xs ys) ∙ sym (a
 pub all-map : {X Y : Type 0} (t : Y → Bool) (f : X → Y) (xs : List X) → list_all t (map f xs) ≡ list_all (λ x. t (f x)) xs
 all-map t f [] = refl
 all-map t f (x ∷ xs) = ap (λ b. t (f x) && b) (all-map t f xs)
-
-pub map-map : {X Y Z : Type 0} (g : Y → Z) (f : X → Y) (xs : List X) → map g (map f xs) ≡ map (λ x. g (f x)) xs
-map-map g f [] = refl
-map-map g f (x ∷ xs) = ap (λ l. g (f x) ∷ l) (map-map g f xs)
 
 -- one more number passes
 pub all_more : (t : ℕ → Bool) (n : ℕ) → list_all t (range_with_len 0 n) ≡ true → t n ≡ true → list_all t (range_with_len 0 (n + 1)) ≡ true

@@ -1,8 +1,7 @@
 -- What each group of maps is, in one record.
-use Rattle.std.proofs.Common.{ℕ, suc, ◌<◌, ◌/◌, List, [], ◌∷◌, All, length, refl, subst, inl, inr, arith}
-use Rattle.df_lists.specs.Membership.{In}
+use Rattle.std.proofs.Common.{ℕ, ◌<◌, ◌/◌, List, length, refl, arith}
+use Rattle.df_lists.proofs.SetLaws.{In-set}
 use Rattle.df_group.specs.Elements.{order_of}
-use Rattle.df_acting.proofs.ImageLaws.{In-set}
 use Rattle.df_maps.specs.FullMaps.{MapGroup, IsMaps, full_maps, map_number, carried, point_count}
 use Rattle.df_subsets.specs.Subsets.{subsets, same_list}
 use Rattle.df_subsets.proofs.BlockLaws.{set_is_block}
@@ -26,11 +25,6 @@ are_group M is = record {
 
 abbrev pub made_of : List ℕ → ℕ → List ℕ → List ℕ → MapGroup
 made_of factors fixed products shifts = record { factors = factors; fixed = fixed; products = products; shifts = shifts }
-
-pub all_members : (P : ℕ → Type 0) (xs : List ℕ) → All P xs → (x : ℕ) → In xs x → P x
-all_members P [] all x i = absurd i
-all_members P (y ∷ ys) all x (inl e) = subst P e (all 0 x (omega arith))
-all_members P (y ∷ ys) all x (inr i) = all_members P ys (λ k d l. all (suc k) d (omega (arith, l))) x i
 
 pub number_low : (M : MapGroup) → IsMaps M → (i : ℕ) → i < length (full_maps M) → (map_number M i).1 < order_of M.factors
 number_low M is i h = In-set (order_of M.factors) M.shifts (map_number M i).1 is.shifts_set (In-pairs_gives M.products M.shifts (map_number M i) (number_in M is i h)).1

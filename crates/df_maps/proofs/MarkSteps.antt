@@ -1,9 +1,9 @@
--- Marks in lists of tests, and tests over the first members of a list.
+-- Marks in lists of tests.
 use Rattle.std.proofs.Common.{◌≡◌, ℕ, ◌+◌, ◌<◌, Bool, true, false, ◌||◌, List, length, get_or, set, take, get_or-set_same, get_or-set_other, eq-eqb, ne_eqb, refl, sym, ap, ◌∙◌, subst, eqb, ⊎_elim}
 use Rattle.std.proofs.lemmas.Bool.{cases_eq, or_right}
 use Rattle.std.specs.List.{list_any}
-pub use Rattle.std.proofs.Math.Bool.{or_assoc}
-pub use Rattle.df_lists.proofs.ListPlaces.{any_take_more}
+use Rattle.std.proofs.Math.Bool.{or_assoc}
+use Rattle.df_lists.proofs.TestLaws.{any_take_more}
 
 pub or_none : (b : Bool) → (b || false) ≡ b
 or_none true = refl

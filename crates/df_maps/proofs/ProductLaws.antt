@@ -6,12 +6,12 @@ use Rattle.df_lists.specs.Membership.{In}
 use Rattle.df_lists.specs.NumberSets.{has_member, set_of, IsSet}
 use Rattle.df_lists.proofs.MemberLaws.{In-map, In-map_gives, In-filter, In-filter_gives, count_some}
 use Rattle.df_lists.proofs.TestLaws.{any_from, any_gives, has_from, has_gives}
-use Rattle.df_acting.proofs.ImageLaws.{In-points, In-points_gives, filter_is_set}
+use Rattle.df_lists.proofs.SetLaws.{In-points, In-points_gives, filter_is_set}
 use Rattle.df_maps.specs.Products.{product_of, AllIn, products_within, products, AreProducts}
 use Rattle.std.proofs.lemmas.Nat.{mul-mod_second}
-pub use Rattle.df_lists.proofs.ListTotals.{count_most, count_less, count_whole}
-pub use Rattle.df_lists.proofs.MemberLaws.{In-flat_map, In-flat_map_gives}
-pub use Rattle.df_lists.proofs.SetLaws.{set_long}
+use Rattle.df_lists.proofs.ListTotals.{count_most, count_less, count_whole}
+use Rattle.df_lists.proofs.MemberLaws.{In-flat_map, In-flat_map_gives}
+use Rattle.df_lists.proofs.SetLaws.{set_long}
 
 pub In-set_of : (v : ℕ) (xs : List ℕ) (r : ℕ) → r < v → In xs r → In (set_of v xs) r
 In-set_of v xs r h i = In-filter (has_member xs) (range_with_len 0 v) r (In-points v r h) (has_from xs r i)

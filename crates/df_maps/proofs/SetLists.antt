@@ -8,9 +8,9 @@ use Rattle.df_lists.specs.NumberSets.{has_member, IsSet}
 use Rattle.df_lists.proofs.MemberLaws.{In-filter_gives, In-range_gives}
 use Rattle.df_lists.specs.Orders.{IsSorted}
 use Rattle.df_lists.proofs.TestLaws.{filter_agree, has_from}
-use Rattle.df_acting.proofs.ImageLaws.{range_once, In-set}
-pub use Rattle.df_lists.proofs.ListPlaces.{In-get_or}
-pub use Rattle.df_lists.proofs.TestLaws.{filter-filter}
+use Rattle.df_lists.proofs.SetLaws.{range_once, In-set}
+use Rattle.df_lists.proofs.ListPlaces.{In-get_or}
+use Rattle.df_lists.proofs.TestLaws.{filter-filter}
 
 -- a member stands in the list once
 pub set_once : (v : ℕ) (b : List ℕ) (p : ℕ) → IsSet v b → In b p → count (eqb p) b ≡ 1

@@ -6,6 +6,8 @@ use Rattle.std.proofs.lemmas.Option.{slice_get-get_or}
 use Rattle.df_lists.specs.Membership.{In}
 use Rattle.df_lists.specs.Orders.{IsSorted}
 use Rattle.df_lists.proofs.MemberLaws.{In-filter_gives}
+use Rattle.df_lists.proofs.ListPlaces.{In-slice_get}
+use Rattle.df_lists.proofs.SortedLists.{sorted-filter}
 use Rattle.df_subsets.specs.Blocks.{before}
 use Rattle.df_subsets.specs.Subsets.{same_list, place_of}
 use Rattle.df_subsets.specs.SubsetLaws.{AreOrdered, CandidatesAreAll}
@@ -16,12 +18,10 @@ use Rattle.df_system.specs.Storage.{positive_cells}
 use Rattle.df_system.proofs.PositiveCells.{positive_cells-append}
 use Rattle.df_kramer_mesner.specs.OrbitSystems.{maps_of_problem, all_blocks, has_alike, pairs_of, orbits_of, needed_of, pair_entry, needed_entry, pair_target, entries_of, targets_of, columns_of, is_kept, column_number, cells_of, orbit_at}
 use Rattle.df_kramer_mesner.specs.Laws.{AreNumbered}
-use Rattle.df_orbits.proofs.ClassNumbers.{sorted-filter}
 use Rattle.df_matrix.specs.MatrixParts.{pair_cells, needed_places, kept_places}
 use Rattle.df_matrix.proofs.CellTests.{all_within, within_append, within_cells, within_ones}
 use Rattle.df_matrix.proofs.NeededCells.{no_own_row, own_row}
 use Rattle.df_matrix.proofs.PlaceLists.{block_at_place, place_listed, place_passes}
-use Rattle.df_kramer_mesner.proofs.OrbitNumbers.{In-slice_get}
 
 orbits_sorted : CandidatesAreAll → (s : Stated) → IsSorted before (orbits_of s)
 orbits_sorted all s = sorted-filter before (is_earliest before (image (maps_of_problem s)) (full_maps (maps_of_problem s))) (all_blocks s) (all (point_count s) s.sizes).sorted

@@ -5,9 +5,9 @@ use Rattle.std.proofs.lemmas.Bool.{cases_eq, ne_eqb}
 use Rattle.std.proofs.lemmas.List.{drop_more}
 use Rattle.std.proofs.lemmas.Option.{slice_get-get_or}
 use Rattle.df_lists.specs.Membership.{In}
+use Rattle.df_lists.proofs.ListPlaces.{In-slice_get}
 use Rattle.df_walk.specs.declared.Cell.{Cell}
 use Rattle.df_walk.specs.Systems.{AreCells, entry_of}
-use Rattle.df_kramer_mesner.proofs.OrbitNumbers.{In-slice_get}
 
 -- the rows rise from `low` on
 abbrev pub Rising : ℕ → List Cell → Type 0

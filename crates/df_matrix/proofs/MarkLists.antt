@@ -1,20 +1,14 @@
 -- Marks on listed blocks, one listed thing after another.
-use Rattle.std.proofs.Common.{◌≡◌, ℕ, zero, suc, ◌+◌, ◌<◌, Bool, true, false, ◌||◌, map, replicate, take, set, List, [], ◌∷◌, length, get_or, refl, sym, ap, ◌∙◌, arith, ⊎_elim, eqb, eq-eqb}
+use Rattle.std.proofs.Common.{◌≡◌, ℕ, ◌+◌, ◌<◌, Bool, true, false, ◌||◌, map, replicate, take, set, List, [], ◌∷◌, length, get_or, refl, sym, ap, ◌∙◌, arith, ⊎_elim, eqb, eq-eqb}
 use Rattle.std.specs.List.{list_any}
 use Rattle.std.proofs.lemmas.Bool.{cases_eq, ne_eqb}
 use Rattle.std.proofs.lemmas.List.{length-map, length-set, get_or-map, get_or-set_same, get_or-set_other, same_lists}
+use Rattle.df_lists.proofs.TestLaws.{any_take_more}
 
 -- no mark yet
 pub marks_none : {X Y : Type 0} (test : X → Y → Bool) (xs : List X) (n : ℕ) → n ≡ length xs → replicate n false ≡ map (λ x. list_any (λ y. test x y) []) xs
 marks_none test [] n e = ap (λ n. replicate n false) e
 marks_none test (x ∷ xs) n e = ap (λ n. replicate n false) e ∙ ap (λ l. false ∷ l) (marks_none test xs (length xs) refl)
-
-any_more : {Y : Type 0} (t : Y → Bool) (ys : List Y) (k : ℕ) (d : Y) → k < length ys → list_any t (take (k + 1) ys) ≡ (list_any t (take k ys) || t (get_or ys k d))
-any_more t [] k d h = absurd (omega (arith, h))
-any_more t (y ∷ ys) zero d h = elim (t y) as (λ b. (b || false) ≡ (false || b)) [ true ↦ refl | false ↦ refl ]
-any_more t (y ∷ ys) (suc k) d h =
-    ap (λ n. list_any t (take n (y ∷ ys))) {x = suc k + 1} {y = suc (k + 1)} (omega arith)
-    ∙ elim (t y) as (λ b. (b || list_any t (take (k + 1) ys)) ≡ ((b || list_any t (take k ys)) || t (get_or ys k d))) [ true ↦ refl | false ↦ any_more t ys k d (omega (arith, h)) ]
 
 -- the block number r, and it alone, has the next of the things
 pub marks_more : {X Y : Type 0} (test : X → Y → Bool) (xs : List X) (ys : List Y) (k r : ℕ) (e : X) (d y : Y) (marks : List Bool) → marks ≡ map (λ x. list_any (test x) (take k ys)) xs → k < length ys → y ≡ get_or ys k d → r < length xs
@@ -29,7 +23,7 @@ marks_more test xs ys k r e d y marks is h at within own =
     before i b l = ap (λ m. get_or m i b) is ∙ get_or-map (λ x. list_any (test x) (take k ys)) xs i e b l
 
     after : (i : ℕ) (b : Bool) → i < length xs → get_or (map (λ x. list_any (test x) (take (k + 1) ys)) xs) i b ≡ (list_any (test (get_or xs i e)) (take k ys) || eqb i r)
-    after i b l = get_or-map (λ x. list_any (test x) (take (k + 1) ys)) xs i e b l ∙ any_more (test (get_or xs i e)) ys k d h ∙ ap (λ t. list_any (test (get_or xs i e)) (take k ys) || t) (ap (test (get_or xs i e)) (sym at) ∙ own i l)
+    after i b l = get_or-map (λ x. list_any (test x) (take (k + 1) ys)) xs i e b l ∙ any_take_more (test (get_or xs i e)) ys k d h ∙ ap (λ t. list_any (test (get_or xs i e)) (take k ys) || t) (ap (test (get_or xs i e)) (sym at) ∙ own i l)
 
     or_true : (b : Bool) → true ≡ (b || true)
     or_true true = refl

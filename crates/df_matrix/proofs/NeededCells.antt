@@ -1,24 +1,20 @@
 -- The cells of an orbit: those of pairs, and then that of its own row.
-use Rattle.std.proofs.Common.{◌≡◌, ℕ, zero, suc, ◌+◌, Bool, true, false, map, List, [], ◌∷◌, refl, sym, ap, ap₂, ◌∙◌, subst, arith, inl, inr, Some, slice_get}
-use Rattle.std.proofs.lemmas.Bool.{false≢true}
+use Rattle.std.proofs.Common.{◌≡◌, ℕ, zero, suc, ◌+◌, true, false, map, List, [], ◌∷◌, refl, sym, ap, ap₂, ◌∙◌, subst, arith, inl, inr, Some, slice_get, ◌++◌}
+use Rattle.std.proofs.lemmas.Bool.{false≢true, false_from_ne_true}
 use Rattle.std.proofs.lemmas.Option.{same_Some}
 use Rattle.df_lists.specs.Membership.{In}
 use Rattle.df_lists.specs.Orders.{IsEquality, IsOrder, IsSorted}
+use Rattle.df_lists.proofs.ListPlaces.{In-slice_get}
 use Rattle.df_subsets.specs.Blocks.{before}
 use Rattle.df_subsets.specs.Subsets.{same_list}
 use Rattle.df_system.specs.Storage.{positive_cells}
 use Rattle.df_kramer_mesner.specs.OrbitSystems.{needed_entry}
-use Rattle.df_kramer_mesner.proofs.OrbitNumbers.{In-slice_get}
-
-not_true : (b : Bool) → (b ≡ true → ⊥) → b ≡ false
-not_true true h = absurd (h refl)
-not_true false h = refl
 
 module _ (E : IsEquality same_list) (O : IsOrder before) (b : List ℕ) where
   needed_none : (m : ℕ) (needed : List (List ℕ)) → ((c : List ℕ) → In needed c → b ≡ c → ⊥) → positive_cells m (map (needed_entry b) needed) ≡ []
   needed_none m [] h = refl
   needed_none m (c ∷ needed) h =
-      let differs : same_list b c ≡ false = not_true (same_list b c) (λ t. h c (inl refl) (E.same b c t)) in
+      let differs : same_list b c ≡ false = false_from_ne_true (same_list b c) (λ t. h c (inl refl) (E.same b c t)) in
       rw differs (needed_none (m + 1) needed (λ d i. h d (inr i)))
 
   pub no_own_row : (m : ℕ) (needed : List (List ℕ)) → ((c : List ℕ) → In needed c → b ≡ c → ⊥) → positive_cells m (map (needed_entry b) needed) ≡ []
@@ -39,6 +35,6 @@ module _ (E : IsEquality same_list) (O : IsOrder before) (b : List ℕ) where
       let rest = needed_none (m + 1) needed (λ d i. apart d (subst (λ c. before c d ≡ true) e (sorted.0 d i))) in
       rw same (ap₂ (λ r l. record { row = r; value = 1 } ∷ l) {x = m} {y = m + 0} (omega arith) rest)
   own_row m (suc k) (c ∷ needed) sorted h =
-      let differs : same_list b c ≡ false = not_true (same_list b c) (λ t. apart_back c (sorted.0 b (In-slice_get needed k b h)) (E.same b c t)) in
+      let differs : same_list b c ≡ false = false_from_ne_true (same_list b c) (λ t. apart_back c (sorted.0 b (In-slice_get needed k b h)) (E.same b c t)) in
       let rest = own_row (m + 1) k needed sorted.1 h in
       rw differs (rest ∙ ap (λ r. record { row = r; value = 1 } ∷ []) {x = m + 1 + k} {y = m + suc k} (omega arith))

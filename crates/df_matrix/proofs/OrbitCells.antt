@@ -7,6 +7,7 @@ use Rattle.std.proofs.lemmas.Simd.{map-map}
 use Rattle.std.proofs.Math.Nat.{zero-div, mul-le-mul}
 use Rattle.df_lists.specs.Membership.{In}
 use Rattle.df_lists.proofs.MemberLaws.{In-filter_gives}
+use Rattle.df_lists.proofs.ListPlaces.{In-slice_get}
 use Rattle.df_subsets.specs.Blocks.{before}
 use Rattle.df_subsets.specs.Subsets.{choose}
 use Rattle.df_acting.specs.Earliest.{is_earliest}
@@ -17,7 +18,6 @@ use Rattle.df_walk.specs.Systems.{AreCells, entry_of}
 use Rattle.df_kramer_mesner.specs.OrbitSystems.{maps_of_problem, all_pairs, all_blocks, pairs_of, pairs_within, row_size, orbit_size, pair_entry}
 use Rattle.df_kramer_mesner.specs.Laws.{EntriesAreQuotients, CellsAreTold, IsQuotient}
 use Rattle.df_matrix.specs.MatrixParts.{AreRowsOf, quotient_cell, pair_cells}
-use Rattle.df_kramer_mesner.proofs.OrbitNumbers.{In-slice_get}
 use Rattle.df_matrix.proofs.CellEntries.{entry_at, entry_changed}
 use Rattle.df_matrix.proofs.Tallies.{IsTally}
 

@@ -1,7 +1,6 @@
 -- What is kept of the orbits, told of the problem.
-use Rattle.std.proofs.Common.{◌≡◌, ℕ, ◌<◌, ◌≤◌, map, filter, List, [], ◌∷◌, length, sym, ap, ◌∙◌, subst, arith, cond, true, false, Bool, All, get_or}
-use Rattle.std.proofs.lemmas.List.{length-map, map-id, get_or_read, get_or-map}
-use Rattle.std.proofs.lemmas.Simd.{map-map}
+use Rattle.std.proofs.Common.{◌≡◌, ℕ, ◌<◌, ◌≤◌, List, [], length, sym, ap, ◌∙◌, subst, arith, get_or}
+use Rattle.std.proofs.lemmas.List.{length-map, get_or_read, get_or-map}
 use Rattle.df_lists.specs.Membership.{In}
 use Rattle.df_lang.specs.Problems.{Stated, point_count}
 use Rattle.df_subsets.specs.Blocks.{before}
@@ -10,25 +9,17 @@ use Rattle.df_acting.specs.Earliest.{is_earliest}
 use Rattle.df_maps.specs.FullMaps.{full_maps, image, carried}
 use Rattle.df_lists.specs.NumberSets.{IsSet}
 use Rattle.df_lists.proofs.MemberLaws.{In-filter_gives, count_some}
+use Rattle.df_lists.proofs.ListTotals.{count_whole}
+use Rattle.df_lists.proofs.ListPlaces.{In-get_or}
 use Rattle.df_subsets.specs.Subsets.{same_list}
 use Rattle.df_acting.proofs.ClassLaws.{class_self}
 use Rattle.df_acting.proofs.ImageLaws.{image_group}
 use Rattle.df_maps.proofs.SpreadLaws.{lists_equal}
 use Rattle.df_maps.specs.FullMaps.{MapGroup}
-use Rattle.df_maps.proofs.SetLists.{In-get_or}
-use Rattle.df_orbits.specs.OrbitClasses.{class_size, classes_of, earliest_of, first_members, class_sizes}
+use Rattle.df_orbits.specs.OrbitClasses.{first_members, class_sizes}
+use Rattle.df_orbits.proofs.ListedOrbits.{members_are, sizes_are}
 use Rattle.df_kramer_mesner.specs.OrbitSystems.{maps_of_problem, alike, all_pairs, all_blocks, pairs_of, orbits_of, pair_at, orbit_at, row_size, orbit_size}
 use Rattle.df_matrix.specs.MatrixParts.{AreOrbits}
-
-members_listed : (M : MapGroup) (blocks : List (List ℕ)) → first_members (classes_of M blocks) ≡ earliest_of M blocks
-members_listed M blocks = map-map (λ (c : List ℕ × ℕ). c.0) (λ b. (b, class_size M blocks b)) (earliest_of M blocks) ∙ map-id (earliest_of M blocks)
-
-sizes_listed : (M : MapGroup) (blocks : List (List ℕ)) → class_sizes (classes_of M blocks) ≡ map (class_size M blocks) (earliest_of M blocks)
-sizes_listed M blocks = map-map (λ (c : List ℕ × ℕ). c.1) (λ b. (b, class_size M blocks b)) (earliest_of M blocks)
-
-pub count_within : {X : Type 0} (t : X → Bool) (xs : List X) → length (filter t xs) ≤ length xs
-count_within t [] = omega arith
-count_within t (x ∷ xs) = let m = count_within t xs in elim (t x) as (λ b. length (cond b (x ∷ filter t xs) (filter t xs)) ≤ length (x ∷ xs)) [ true ↦ omega (arith, m) | false ↦ omega (arith, m) ]
 
 -- the two points of a pair, as they are read
 pub read_first : (v r : ℕ) (xs pair : List ℕ) → IsPair v pair → xs ≡ pair → r ≡ get_or xs 0 r → r ≡ get_or pair 0 0
@@ -43,10 +34,10 @@ shown {maps = maps} {pairs = pairs} {numbers = numbers} {blocks = blocks} e K = 
 
 module _ (s : Stated) {maps : MapGroup} {pairs : List (List ℕ × ℕ)} {numbers : MapGroup} {blocks : List (List ℕ × ℕ)} (K : AreOrbits s maps pairs numbers blocks) where
   pub pairs_listed : first_members pairs ≡ pairs_of s
-  pairs_listed = ap first_members K.pairs_are ∙ members_listed (maps_of_problem s) (all_pairs s)
+  pairs_listed = ap first_members K.pairs_are ∙ members_are (maps_of_problem s) (all_pairs s)
 
   pub blocks_listed : first_members blocks ≡ orbits_of s
-  blocks_listed = ap first_members K.orbits_are ∙ members_listed (maps_of_problem s) (all_blocks s)
+  blocks_listed = ap first_members K.orbits_are ∙ members_are (maps_of_problem s) (all_blocks s)
 
   pub pairs_long : length pairs ≡ length (pairs_of s)
   pairs_long = sym (length-map pairs (λ (c : List ℕ × ℕ). c.0)) ∙ ap length pairs_listed
@@ -55,13 +46,13 @@ module _ (s : Stated) {maps : MapGroup} {pairs : List (List ℕ × ℕ)} {number
   blocks_long = sym (length-map blocks (λ (c : List ℕ × ℕ). c.0)) ∙ ap length blocks_listed
 
   pub orbits_few : length (orbits_of s) ≤ 8000000
-  orbits_few = omega (arith, count_within {X = List ℕ}, K.few)
+  orbits_few = omega (arith, count_whole {X = List ℕ}, K.few)
 
   pub row_sized : (i n : ℕ) → n ≡ get_or (class_sizes pairs) i 0 → i < length (pairs_of s) → n ≡ row_size s (pair_at s i)
-  row_sized i n h k = h ∙ ap (λ l. get_or l i 0) (ap class_sizes K.pairs_are ∙ sizes_listed (maps_of_problem s) (all_pairs s)) ∙ get_or-map (row_size s) (pairs_of s) i [] 0 k
+  row_sized i n h k = h ∙ ap (λ l. get_or l i 0) (ap class_sizes K.pairs_are ∙ sizes_are (maps_of_problem s) (all_pairs s)) ∙ get_or-map (row_size s) (pairs_of s) i [] 0 k
 
   pub orbit_sized : (i n : ℕ) → n ≡ get_or (class_sizes blocks) i 0 → i < length (orbits_of s) → n ≡ orbit_size s (orbit_at s i)
-  orbit_sized i n h k = h ∙ ap (λ l. get_or l i 0) (ap class_sizes K.orbits_are ∙ sizes_listed (maps_of_problem s) (all_blocks s)) ∙ get_or-map (orbit_size s) (orbits_of s) i [] 0 k
+  orbit_sized i n h k = h ∙ ap (λ l. get_or l i 0) (ap class_sizes K.orbits_are ∙ sizes_are (maps_of_problem s) (all_blocks s)) ∙ get_or-map (orbit_size s) (orbits_of s) i [] 0 k
 
   -- a representative that is read among those of pairs
   pub row_at : (row : ℕ) (pair : List ℕ) → pair ≡ get_or (first_members pairs) row [] → pair ≡ pair_at s row
@@ -90,7 +81,3 @@ module _ (s : Stated) {maps : MapGroup} {pairs : List (List ℕ × ℕ)} {number
       let set = ((few s K.stated).orbit b (In-get_or (orbits_of s) i [] h)).set in
       let M = maps_of_problem s in
       count_some (λ c. alike s c b) (all_blocks s) b (orbit_member i h) (class_self same_list (image M) (IsSet (point_count s)) (full_maps M) lists_equal (image_group (carried M) (point_count s) (full_maps M) K.group.group) b set)
-
--- what is so of each member is so of all
-pub all_from : {X : Type 0} (P : X → Type 0) (xs : List X) → ((x : X) → In xs x → P x) → All P xs
-all_from P xs h = λ k d l. h (get_or xs k d) (In-get_or xs k d l)

@@ -1,5 +1,5 @@
 -- The places of the listed blocks that pass a test.
-use Rattle.std.proofs.Common.{◌≡◌, ℕ, suc, ◌+◌, ◌<◌, ◌≤◌, Bool, true, false, cond, map, filter, ◌++◌, List, [], ◌∷◌, length, get_or, refl, sym, ap, ap₂, ◌∙◌, subst, arith, Some, slice_get, append-nil, ⊎_elim}
+use Rattle.std.proofs.Common.{◌≡◌, ℕ, suc, ◌+◌, ◌<◌, ◌≤◌, Bool, true, false, cond, map, filter, ◌++◌, List, [], ◌∷◌, length, get_or, refl, sym, ap, ap₂, ◌∙◌, arith, Some, slice_get, append-nil, ⊎_elim}
 use Rattle.std.specs.List.{range_with_len}
 use Rattle.std.specs.Option.{option_map}
 use Rattle.std.specs.List.Sorted.{IsStrictlyIncreasing}
@@ -8,15 +8,12 @@ use Rattle.std.proofs.lemmas.List.Kept.{IsStrictlyIncreasing-filter}
 use Rattle.std.proofs.lemmas.List.FromFn.{get_or-range_with_len, length-range_with_len}
 use Rattle.std.proofs.lemmas.Option.{slice_get-map, slice_get-get_or, slice_get_read, get_or_from_slice_get}
 use Rattle.std.proofs.lemmas.Bool.{cases_lt}
-use Rattle.std.proofs.lemmas.Map.Keys.{below_from_sorted, sorted_from_strictly_increasing}
 use Rattle.df_lists.specs.Membership.{In}
 use Rattle.df_lists.proofs.RangeLaws.{filter_more}
-use Rattle.df_lists.specs.NumberSets.{IsSet, has_member}
 use Rattle.df_lists.proofs.MemberLaws.{In-filter, In-filter_gives, In-range, In-range_gives}
 use Rattle.df_lists.proofs.TestLaws.{filter_agree}
-use Rattle.df_orbits.proofs.ClassNumbers.{In-place}
+use Rattle.df_lists.proofs.ListPlaces.{In_place, In-slice_get}
 use Rattle.df_matrix.specs.MatrixParts.{places_where}
-use Rattle.df_kramer_mesner.proofs.OrbitNumbers.{In-slice_get}
 
 range_rises : (a n : ℕ) → IsStrictlyIncreasing (range_with_len a n)
 range_rises a n k h = let l = length-range_with_len a n in let x = get_or-range_with_len a n k 0 (omega (arith, h, l)) in let y = get_or-range_with_len a n (k + 1) 0 (omega (arith, h, l)) in omega (arith, x, y)
@@ -82,22 +79,11 @@ places_marked test blocks marks e =
     ∙ filter_agree (λ i. get_or (map test blocks) i false) (λ i. test (get_or blocks i [])) (range_with_len 0 (length blocks))
     (λ i j. let r = In-range_gives 0 (length blocks) i j in get_or-map test blocks i [] false (omega (arith, r.1)))
 
--- numbers that increase don't fall
-pub increasing_order : (xs : List ℕ) → IsStrictlyIncreasing xs → (i j : ℕ) → i ≤ j → j < length xs → get_or xs i 0 ≤ get_or xs j 0
-increasing_order xs up i j h l = ⊎_elim (λ less. let e = below_from_sorted xs i j 0 (sorted_from_strictly_increasing xs up) less l in omega (arith, e)) (λ more. let e : i ≡ j = omega (arith, h, more) in at_most (ap (λ k. get_or xs k 0) e)) (cases_lt i j)
-  where
-    at_most : {a b : ℕ} → a ≡ b → a ≤ b
-    at_most e = omega (arith, e)
-
 -- where no number is the one that was looked for
 pub not_listed : (xs : List ℕ) (x r : ℕ) → ((k : ℕ) → k < r → get_or xs k 0 < x) → ((k : ℕ) → r ≤ k → k < length xs → x < get_or xs k 0) → In xs x → ⊥
 not_listed xs x r below above i =
-    let p = In-place xs x 0 i in
+    let p = In_place xs x 0 i in
     ⊎_elim (λ less. let e = below p.0 less in omega (arith, e, p.2)) (λ more. let e = above p.0 more p.1 in omega (arith, e, p.2)) (cases_lt p.0 r)
-
--- a set's members increase
-pub sets_rise : (n : ℕ) (set : List ℕ) → IsSet n set → IsStrictlyIncreasing set
-sets_rise n set e = subst IsStrictlyIncreasing (sym e) (IsStrictlyIncreasing-filter (has_member set) (range_with_len 0 n) (range_rises 0 n))
 
 -- a number that is read among the places, and the block there
 pub read_place : (test : List ℕ → Bool) (blocks : List (List ℕ)) (numbers : List ℕ) (k x : ℕ) → numbers ≡ places_where test blocks → k < length numbers → x ≡ get_or numbers k x → (x < length blocks) × (slice_get (filter test blocks) k ≡ slice_get blocks x)

@@ -1,15 +1,11 @@
 -- Cells in the order of their rows, and one cell more.
-use Rattle.std.proofs.Common.{◌≡◌, ℕ, ◌+◌, ◌<◌, ◌++◌, map, List, [], ◌∷◌, All, length, get_or, sym, subst, arith, inl, inr, length-append}
+use Rattle.std.proofs.Common.{ℕ, ◌+◌, ◌<◌, ◌++◌, map, List, [], ◌∷◌, All, length, get_or, sym, subst, arith, inl, inr, length-append}
 use Rattle.std.specs.List.Sorted.{IsStrictlyIncreasing}
 use Rattle.std.proofs.lemmas.Bool.{cases_lt}
 use Rattle.std.proofs.lemmas.List.{length-map, map-append, get_or-map, get_or_append_left, get_or_push}
 use Rattle.std.proofs.lemmas.List.Elements.{All-push}
 use Rattle.df_walk.specs.declared.Cell.{Cell}
-use Rattle.df_walk.specs.Systems.{AreCells, entry_of}
-
-pub entry_append : (a b : List Cell) (row : ℕ) → entry_of (a ++ b) row ≡ entry_of a row + entry_of b row
-entry_append [] b row = omega arith
-entry_append (c ∷ a) b row = omega (arith, entry_append a b row)
+use Rattle.df_walk.specs.Systems.{AreCells}
 
 increasing_push : (xs : List ℕ) (r : ℕ) → IsStrictlyIncreasing xs → ((k : ℕ) → k < length xs → get_or xs k 0 < r) → IsStrictlyIncreasing (xs ++ r ∷ [])
 increasing_push xs r up below k h =

@@ -8,8 +8,9 @@ use Rattle.df_lists.specs.Totals.{one}
 use Rattle.df_lists.proofs.MemberLaws.{count-append}
 use Rattle.df_walk.specs.declared.Cell.{Cell}
 use Rattle.df_walk.specs.Systems.{AreCells, entry_of}
+use Rattle.df_walk.proofs.EntryLaws.{entry_of-append}
 use Rattle.df_matrix.proofs.RowLists.{count_one}
-use Rattle.df_matrix.proofs.RisingCells.{entry_append, cells_none, cells_push}
+use Rattle.df_matrix.proofs.RisingCells.{cells_none, cells_push}
 
 -- the first i rows are told: the cells have those that end before, and the row at i was listed c times
 pub record IsTelling (rows : List ℕ) (i c : ℕ) (told : List Cell) : Type 0 where
@@ -78,7 +79,7 @@ telling_ends rows i c cells sorted few T h differs = record {
 
     told : (row : ℕ) (b : Bool) → eqb (get_or rows i 0) row ≡ b → entry_of (cells ++ record { row = get_or rows i 0; value = c + 1 } ∷ []) row + cond (eqb (get_or rows (i + 1) 0) row) 0 0 ≡ count (λ r. eqb r row) (take (i + 1) rows)
     told row b e =
-        let parts = entry_append cells (record { row = get_or rows i 0; value = c + 1 } ∷ []) row in
+        let parts = entry_of-append cells (record { row = get_or rows i 0; value = c + 1 } ∷ []) row in
         let more = count_more rows i row h in
         let now = add_one (entry_of cells row) (count (λ r. eqb r row) (take i rows)) c (eqb (get_or rows i 0) row) (T.tally row) in
         omega (arith, parts, more, now, no_count (eqb (get_or rows (i + 1) 0) row))

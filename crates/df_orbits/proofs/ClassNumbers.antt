@@ -1,5 +1,5 @@
 -- Where the earliest member of a block's class stands among all earliest members.
-use Rattle.std.proofs.Common.{◌≡◌, ℕ, suc, zero, ◌+◌, ◌<◌, ◌≤◌, Bool, true, false, ◌||◌, cond, filter, List, [], ◌∷◌, length, get_or, refl, sym, ap, ◌∙◌, subst, inl, inr, ◌⊎◌, arith, eqb, eq-eqb, eqb-true, ⊎_elim, slice_get, Some}
+use Rattle.std.proofs.Common.{◌≡◌, ℕ, suc, zero, ◌+◌, ◌<◌, ◌≤◌, Bool, true, false, ◌||◌, List, [], ◌∷◌, length, get_or, refl, sym, ap, ◌∙◌, subst, inl, inr, ◌⊎◌, arith, eqb, eq-eqb, eqb-true, ⊎_elim, slice_get, Some}
 use Rattle.std.proofs.lemmas.Option.{slice_get-get_or, get_or_from_slice_get, slice_get_within}
 use Rattle.std.proofs.lemmas.Bool.{both_ways, cases_order, cases_lt, false_from_ne_true}
 use Rattle.df_lists.specs.Membership.{In}
@@ -14,15 +14,16 @@ use Rattle.df_subsets.proofs.SubsetLists.{same_list-gives, same_list-self}
 use Rattle.df_subsets.proofs.SizedLists.{choose_is, candidates_sorted, candidates_have}
 use Rattle.df_acting.specs.Classes.{IsSpread}
 use Rattle.df_acting.specs.Earliest.{is_earliest}
-use Rattle.df_lists.proofs.TestLaws.{same_tests, any_from, filter_agree, map_fixed}
+use Rattle.df_lists.proofs.TestLaws.{same_tests, any_from, filter_agree}
+use Rattle.df_lists.proofs.ListPlaces.{In-get_or, In_place}
+use Rattle.df_lists.proofs.SortedLists.{sorted-filter}
 use Rattle.df_acting.proofs.EarliestLaws.{least_gives, least_same, least_least, least_once, least_class}
 use Rattle.df_maps.proofs.SpreadLaws.{lists_equal, candidates_spread}
 use Rattle.df_maps.specs.FullMaps.{MapGroup, full_maps, image, point_count, carried}
 use Rattle.df_maps.specs.Laws.{AreGroup}
-use Rattle.df_maps.proofs.LoopSteps.{map-map}
-use Rattle.df_maps.proofs.SetLists.{In-get_or}
-use Rattle.df_orbits.specs.OrbitClasses.{are_alike, class_size, classes_of, earliest_of, block_classes, first_members, earliest_alike}
+use Rattle.df_orbits.specs.OrbitClasses.{are_alike, earliest_of, block_classes, first_members, earliest_alike}
 use Rattle.df_orbits.proofs.FoundClasses.{blocks_group}
+use Rattle.df_orbits.proofs.ListedOrbits.{members_are}
 
 -- the blocks of one size
 pub one_size : (v k : ℕ) → subsets v k ≡ candidates v (k ∷ [])
@@ -32,25 +33,11 @@ one_size v k = choose_is (points v) k ∙ filter_agree (λ b. eqb k (length b)) 
     or_none true = refl
     or_none false = refl
 
-pub sorted-filter : {X : Type 0} (earlier : X → X → Bool) (t : X → Bool) (xs : List X) → IsSorted earlier xs → IsSorted earlier (filter t xs)
-sorted-filter earlier t [] s = tt
-sorted-filter earlier t (x ∷ xs) s =
-    let more = sorted-filter earlier t xs s.1 in
-    elim (t x) as (λ b. IsSorted earlier (cond b (x ∷ filter t xs) (filter t xs))) [
-      | true ↦ (λ y i. s.0 y (In-filter_gives t xs y i).0, more)
-      | false ↦ more
-    ]
-
 pub sorted_at : {X : Type 0} (earlier : X → X → Bool) (xs : List X) (i j : ℕ) (d : X) → IsSorted earlier xs → i < j → j < length xs → earlier (get_or xs i d) (get_or xs j d) ≡ true
 sorted_at earlier [] i j d s h k = absurd (omega arith)
 sorted_at earlier (x ∷ xs) i zero d s h k = absurd (omega arith)
 sorted_at earlier (x ∷ xs) zero (suc j) d s h k = s.0 (get_or xs j d) (In-get_or xs j d (omega arith))
 sorted_at earlier (x ∷ xs) (suc i) (suc j) d s h k = sorted_at earlier xs i j d s.1 (omega arith) (omega arith)
-
-pub In-place : {X : Type 0} (xs : List X) (x d : X) → In xs x → (p : ℕ) × (p < length xs) × (get_or xs p d ≡ x)
-In-place [] x d i = absurd i
-In-place (y ∷ xs) x d (inl e) = (0, omega arith, e)
-In-place (y ∷ xs) x d (inr i) = let r = In-place xs x d i in (suc r.0, omega (arith, r.1), r.2)
 
 place_at : (F : List (List ℕ)) (i : ℕ) → IsSorted before F → i < length F → place_of (get_or F i []) F ≡ i
 place_at [] i s h = absurd (omega arith)
@@ -66,11 +53,6 @@ place_is F r b s at = sym (place_at F r s (slice_get_within F r b at)) ∙ ap (�
 
 pub places_found : (blocks : List (List ℕ)) → IsSorted before blocks → (i : ℕ) (b : List ℕ) → slice_get blocks i ≡ Some b → place_of b blocks ≡ i
 places_found blocks s i b at = sym (place_is blocks i b s at)
-
--- the earliest members of the listed classes
-pub members_are : (M : MapGroup) (blocks : List (List ℕ)) → first_members (classes_of M blocks) ≡ earliest_of M blocks
-members_are M blocks =
-    map-map (λ (c : List ℕ × ℕ). c.0) (λ b. (b, class_size M blocks b)) (earliest_of M blocks) ∙ map_fixed (λ b. b) (earliest_of M blocks) (λ b i. refl)
 
 -- a block that no image is earlier than is its own earliest image
 pub own_earliest : (M : MapGroup) → AreGroup M → (x : List ℕ) → IsSet (point_count M) x → is_earliest before (image M) (full_maps M) x ≡ true → earliest_alike M x ≡ x
@@ -112,12 +94,12 @@ module _ (M : MapGroup) (A : AreGroup M) (sizes : List ℕ) where
         least_class same_list (image M) (IsSet (point_count M)) (full_maps M) lists_equal (blocks_group M A) before lists_ordered b c set (spread.inside c parts.0) ∙ ap (same_list (earliest_alike M b)) (member_own c i)
 
     pub number_exists : (r : ℕ) × (r < length E) × (get_or E r [] ≡ earliest_alike M b)
-    number_exists = In-place E (earliest_alike M b) [] least_in
+    number_exists = In_place E (earliest_alike M b) [] least_in
 
     -- the place before which all are earlier, and from which on none is
     pub number_found : (r : ℕ) → r ≤ length E → ((i : ℕ) → i < r → before (get_or E i []) (earliest_alike M b) ≡ true) → ((i : ℕ) → r ≤ i → i < length E → before (get_or E i []) (earliest_alike M b) ≡ false) → (r < length E) × (get_or E r [] ≡ earliest_alike M b)
     number_found r within below above =
-        let p = In-place E (earliest_alike M b) [] least_in in
+        let p = In_place E (earliest_alike M b) [] least_in in
         go p.0 p.1 p.2 (cases_order r p.0)
       where
         go : (p : ℕ) → p < length E → get_or E p [] ≡ earliest_alike M b → (r ≡ p) ⊎ ((r < p) ⊎ (p < r)) → (r < length E) × (get_or E r [] ≡ earliest_alike M b)

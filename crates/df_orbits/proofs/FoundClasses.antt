@@ -14,15 +14,14 @@ use Rattle.df_subsets.specs.Subsets.{subsets, same_list}
 use Rattle.df_subsets.proofs.BlockOrders.{lists_ordered, subsets_sorted}
 use Rattle.df_acting.specs.Classes.{IsMapGroup, IsSpread}
 use Rattle.df_acting.specs.Earliest.{is_earliest}
-use Rattle.df_lists.proofs.TestLaws.{same_tests, any_from, any_gives}
+use Rattle.df_lists.proofs.TestLaws.{same_tests, any_from, any_gives, any_take_more}
+use Rattle.df_lists.proofs.ListPlaces.{In-get_or}
 use Rattle.df_acting.proofs.ClassLaws.{class_same, class_comm}
 use Rattle.df_acting.proofs.EarliestLaws.{least_unmarked}
 use Rattle.df_acting.proofs.ImageLaws.{image_group}
 use Rattle.df_maps.proofs.SpreadLaws.{lists_equal, subsets_spread}
 use Rattle.df_maps.specs.FullMaps.{MapGroup, full_maps, image, point_count, carried}
 use Rattle.df_maps.specs.Laws.{AreGroup}
-use Rattle.df_maps.proofs.MarkSteps.{any_take_more}
-use Rattle.df_maps.proofs.SetLists.{In-get_or}
 use Rattle.df_orbits.specs.OrbitClasses.{are_alike, class_size}
 
 module _ (M : MapGroup) (A : AreGroup M) where

@@ -6,7 +6,7 @@ pub mod PairCounts
 pub mod PlaceTests
 pub mod SizeSums
 pub mod SizedClasses
-pub mod SortedLists
+pub mod ListedOrbits
 pub mod NumberedMaps
 pub mod PairPlaces
 pub mod PairNumbering

@@ -1,10 +1,10 @@
 -- Classes by the numbers of the maps.
 use Rattle.std.proofs.Common.{◌≡◌, ℕ, List, length, ap, ◌∙◌}
 use Rattle.std.specs.List.{list_any, range_with_len}
+use Rattle.df_lists.proofs.TestLaws.{any_map}
 use Rattle.df_subsets.specs.Subsets.{same_list}
 use Rattle.df_maps.specs.FullMaps.{MapGroup, image, map_number, full_maps}
 use Rattle.df_maps.specs.Laws.{AreGroup}
-use Rattle.df_maps.proofs.ImageSteps.{any_map}
 use Rattle.df_orbits.specs.OrbitClasses.{are_alike}
 
 pub by_numbers : (M : MapGroup) (b y : List ℕ) → AreGroup M → are_alike M b y ≡ list_any (λ j. same_list (image M (map_number M j) b) y) (range_with_len 0 (length (full_maps M)))

@@ -1,11 +1,13 @@
 -- The numbers of the classes of pairs.
-use Rattle.std.proofs.Common.{◌≡◌, ℕ, ◌+◌, ◌*◌, ◌<◌, ◌≤◌, Bool, true, false, cond, filter, List, [], ◌∷◌, length, get_or, refl, sym, ap, ◌∙◌, subst, inl, arith, eqb, eq-eqb, eqb-true, ⊎_elim, Some}
+use Rattle.std.proofs.Common.{◌≡◌, ℕ, ◌+◌, ◌*◌, ◌<◌, ◌≤◌, true, cond, List, [], ◌∷◌, length, get_or, refl, sym, ap, ◌∙◌, subst, inl, arith, eqb, eq-eqb, eqb-true, ⊎_elim, Some}
 use Rattle.std.proofs.lemmas.Bool.{cases_Bool, cases_lt}
 use Rattle.std.proofs.lemmas.Option.{slice_get-get_or, get_or_from_slice_get, slice_get_within}
 use Rattle.std.proofs.lemmas.List.{length-map}
 use Rattle.df_lists.specs.Membership.{In}
 use Rattle.df_lists.specs.NumberSets.{IsSet}
 use Rattle.df_lists.proofs.MemberLaws.{In-filter_gives}
+use Rattle.df_lists.proofs.ListPlaces.{In-get_or}
+use Rattle.df_lists.proofs.ListTotals.{count_whole}
 use Rattle.df_subsets.specs.Blocks.{IsBlock, before}
 use Rattle.df_subsets.specs.Subsets.{subsets, candidates, binomial}
 use Rattle.df_subsets.proofs.BlockLaws.{block_is_set}
@@ -13,11 +15,11 @@ use Rattle.df_subsets.proofs.SubsetLists.{subsets_inside, subsets_long}
 use Rattle.df_acting.specs.Earliest.{is_earliest}
 use Rattle.df_maps.specs.FullMaps.{MapGroup, full_maps, image, point_count}
 use Rattle.df_maps.specs.Laws.{AreGroup}
-use Rattle.df_maps.proofs.SetLists.{In-get_or}
 use Rattle.df_orbits.specs.OrbitClasses.{are_alike, classes_of, earliest_of, pair_classes, first_members, earliest_alike}
 use Rattle.df_orbits.specs.LookupTables.{IsPairNumber}
 use Rattle.df_orbits.proofs.FoundClasses.{alike_comm}
-use Rattle.df_orbits.proofs.ClassNumbers.{one_size, members_are, number_exists, number_alone, listed_sorted, place_is}
+use Rattle.df_orbits.proofs.ClassNumbers.{one_size, number_exists, number_alone, listed_sorted, place_is}
+use Rattle.df_orbits.proofs.ListedOrbits.{members_are}
 
 abbrev pub firsts : MapGroup → List (List ℕ)
 firsts M = first_members (pair_classes M)
@@ -25,10 +27,6 @@ firsts M = first_members (pair_classes M)
 -- the pairs of the classes below i have their numbers
 abbrev pub AreWritten : MapGroup → List ℕ → ℕ → Type 0
 AreWritten M numbers i = (n p q : ℕ) → n < i → p < q → q < point_count M → are_alike M (get_or (firsts M) n []) (p ∷ q ∷ []) ≡ true → get_or numbers (p * point_count M + q) 0 ≡ n
-
-picked_few : {X : Type 0} (t : X → Bool) (xs : List X) → length (filter t xs) ≤ length xs
-picked_few t [] = omega arith
-picked_few t (x ∷ xs) = let m = picked_few t xs in elim (t x) as (λ b. length (cond b (x ∷ filter t xs) (filter t xs)) ≤ length (x ∷ xs)) [ true ↦ omega (arith, m) | false ↦ omega (arith, m) ]
 
 module _ (M : MapGroup) (A : AreGroup M) where
   firsts_are : firsts M ≡ earliest_of M (candidates (point_count M) (2 ∷ []))
@@ -38,7 +36,7 @@ module _ (M : MapGroup) (A : AreGroup M) where
   firsts_long = length-map (pair_classes M) (λ (c : List ℕ × ℕ). c.0)
 
   pub firsts_few : length (firsts M) ≤ binomial (point_count M) 2
-  firsts_few = omega (arith, ap length (members_are M (subsets (point_count M) 2)), picked_few (is_earliest before (image M) (full_maps M)) (subsets (point_count M) 2), subsets_long (point_count M) 2)
+  firsts_few = omega (arith, ap length (members_are M (subsets (point_count M) 2)), count_whole (is_earliest before (image M) (full_maps M)) (subsets (point_count M) 2), subsets_long (point_count M) 2)
 
   -- the first members are pairs
   pub first_is_pair : (i : ℕ) → i < length (firsts M) → IsBlock (point_count M) (get_or (firsts M) i []) × (length (get_or (firsts M) i []) ≡ 2)

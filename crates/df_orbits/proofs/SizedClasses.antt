@@ -5,11 +5,12 @@ use Rattle.std.proofs.lemmas.List.Recursion.{is_sum_by}
 use Rattle.std.proofs.lemmas.List.Sorted.{sum_by-IsPermutation, All-permutation}
 use Rattle.std.specs.List.{flat_map, list_any, sum_by}
 use Rattle.std.specs.List.Sorted.{IsPermutation}
+use Rattle.std.proofs.lemmas.Simd.{map-map}
 use Rattle.df_lists.specs.Membership.{In, count}
 use Rattle.df_lists.specs.NumberSets.{IsSet}
 use Rattle.df_lists.specs.Totals.{one}
-use Rattle.df_lists.proofs.MemberLaws.{In-filter, In-filter_gives, In-map, In-map_gives, count-append, count-map, count_none, count_some, count_gives}
-use Rattle.df_lists.proofs.ListTotals.{list_total, count_total}
+use Rattle.df_lists.proofs.MemberLaws.{In-filter, In-filter_gives, In-map, In-map_gives, count-append, count-map, count_none, count_some, count_gives, In-flat_map, In-flat_map_gives}
+use Rattle.df_lists.proofs.ListTotals.{list_total, count_total, count_most}
 use Rattle.df_subsets.specs.Blocks.{IsBlock, before}
 use Rattle.df_lists.specs.Orders.{IsSorted}
 use Rattle.df_subsets.specs.Subsets.{points, subsets, candidates, nonempty, same_list}
@@ -18,20 +19,18 @@ use Rattle.df_subsets.proofs.BlockOrders.{lists_ordered}
 use Rattle.df_subsets.proofs.SubsetLists.{same_list-gives, same_list-self, subsets_inside, subsets_once, subsets_have}
 use Rattle.df_subsets.proofs.SizedLists.{candidates_inside, candidates_have}
 use Rattle.df_acting.specs.Earliest.{is_earliest}
-use Rattle.df_lists.proofs.TestLaws.{any_from, any_gives, filter_agree, map_agree}
+use Rattle.df_lists.proofs.TestLaws.{any_from, any_gives, filter_agree, map_agree, filter-filter}
+use Rattle.df_lists.proofs.ListPlaces.{In-get_or, In_place}
+use Rattle.df_lists.proofs.SortedLists.{sorted_same}
 use Rattle.df_acting.proofs.ClassLaws.{class_gives}
 use Rattle.df_acting.proofs.ImageLaws.{length-image}
 use Rattle.df_maps.proofs.SpreadLaws.{lists_equal}
-use Rattle.df_orbits.proofs.SortedLists.{sorted_same}
 use Rattle.df_maps.specs.FullMaps.{MapGroup, full_maps, image, point_count, carried}
 use Rattle.df_maps.specs.Laws.{AreGroup}
-use Rattle.df_maps.proofs.LoopSteps.{map-map}
-use Rattle.df_maps.proofs.ProductLaws.{In-flat_map, In-flat_map_gives, count_most}
-use Rattle.df_maps.proofs.SetLists.{In-get_or, filter-filter}
 use Rattle.df_orbits.specs.OrbitClasses.{are_alike, class_size, classes_of, earliest_of, block_classes}
 use Rattle.df_orbits.specs.declared.orbits.Orbit.{Orbit}
 use Rattle.df_orbits.proofs.OrbitLists.{shown}
-use Rattle.df_orbits.proofs.ClassNumbers.{one_size, members_sorted, In-place}
+use Rattle.df_orbits.proofs.ClassNumbers.{one_size, members_sorted}
 use Rattle.df_orbits.proofs.FoundClasses.{blocks_group}
 
 -- no number is listed twice
@@ -195,7 +194,7 @@ module _ (M : MapGroup) (A : AreGroup M) (sizes : List ℕ) where
     blocks = map (λ (o : Orbit). o.block) new
 
     in_new : (o : Orbit) → In new o → IsClass (shown o)
-    in_new o i = let p = In-place new o o i in subst (λ x. IsClass (shown x)) p.2 (all p.0 o p.1)
+    in_new o i = let p = In_place new o o i in subst (λ x. IsClass (shown x)) p.2 (all p.0 o p.1)
       where
         all : All (λ o. IsClass (shown o)) new
         all = All-permutation (λ o. IsClass (shown o)) items new perm (λ k d h. class_listed (shown (get_or items k d)) (subst (λ l. In l (shown (get_or items k d))) same (In-map shown items (get_or items k d) (In-get_or items k d h))))

@@ -6,7 +6,7 @@ use Rattle.std.proofs.lemmas.Nat.{div-mul-add, mod-mul-add, mul-add-lt}
 use Rattle.std.specs.List.{range_with_len}
 use Rattle.df_lists.specs.Membership.{In}
 use Rattle.df_lists.proofs.MemberLaws.{In-map}
-use Rattle.df_acting.proofs.ImageLaws.{In-points}
+use Rattle.df_lists.proofs.SetLaws.{In-points}
 use Rattle.df_maps.specs.FullMaps.{MapGroup, full_maps, map_number, carried, point_count}
 use Rattle.df_maps.specs.Laws.{AreGroup}
 use Rattle.df_orbits.specs.LookupTables.{AreImages, AreNumbered, IsPairNumber}

@@ -2,12 +2,13 @@
 use Rattle.std.proofs.Common.{◌≡◌, ◌+◌, Bool, true, false, not, List, [], ◌++◌, length, refl, sym, ap, ◌∙◌, length-append}
 use Rattle.std.specs.Prelude.{filter, ◌&&◌}
 use Rattle.std.proofs.lemmas.List.Elements.{filter_agree, filter-append, filter_map-append}
+use Rattle.std.proofs.Math.Bool.{and_comm}
+use Rattle.df_lists.proofs.TestLaws.{filter-filter}
 use Rattle.df_walk.specs.declared.Rules.{Rules}
 use Rattle.df_walk.specs.Systems.{System, IsSystem}
 use Rattle.df_walk.specs.Walks.{Step, walk, solution_of, solutions_in, node_of, nodes_in}
 use Rattle.df_walk.specs.Paths.{not_before}
 use Rattle.df_walk.specs.Remains.{walk_on, IsStart, earlier}
-use Rattle.df_walk.proofs.DecisionSplits.{filter-filter, and_comm}
 use Rattle.df_walk.proofs.WalkOrder.{on_path, remains_is}
 use Rattle.df_walk.proofs.WalkCuts.{walk-cut}
 use Rattle.df_walk.proofs.RestSolutions.{solutions_in-walk_on}

@@ -5,6 +5,7 @@ use Rattle.std.specs.List.{AllByRecursion}
 use Rattle.std.proofs.lemmas.Bool.{or_parts}
 use Rattle.std.proofs.lemmas.List.{append_assoc, append-nil}
 use Rattle.std.proofs.lemmas.List.Elements.{filter_map-append}
+use Rattle.df_lists.proofs.MemberLaws.{AllByRecursion-append}
 use Rattle.df_walk.specs.declared.Rules.{Rules}
 use Rattle.df_walk.specs.declared.Entry.{Entry}
 use Rattle.df_walk.specs.declared.Entry.TheVariants.{Branch, Over, Under, Settled, Residue, Cut}
@@ -21,7 +22,6 @@ use Rattle.df_walk.proofs.WalkNodes.{nodes_in-walk_on}
 use Rattle.df_walk.proofs.NodeVisits.{node_visited, start_of}
 use Rattle.df_runs.specs.Orders.{Ascend}
 use Rattle.df_runs.specs.Runs.{Run, run_over, run_of, then_run, IsRunFrom, counted_as, IsCounted, StopsFirst}
-use Rattle.df_walk.proofs.MemberLaws.{all_append}
 use Rattle.df_runs.proofs.StepLists.{all_front, all_back, all_kept, all_pass, Ascend-filter, Ascend-cut}
 use Rattle.df_runs.proofs.WalkOrders.{walk_from-all, walk_from-ascends}
 use Rattle.df_runs.proofs.CutNodes.{later_of}
@@ -61,7 +61,7 @@ walk_from-counted rules s (suc left) p v =
     go (Residue r m) h a b = tt
     go (Cut ws) h a b = tt
     go Settled h a b = tt
-    go (Branch c) h a b = all_append _ A B (a (settled_more s [] p true v h.4)) (b (settled_more s [] p false v h.4))
+    go (Branch c) h a b = AllByRecursion-append _ A B (a (settled_more s [] p true v h.4)) (b (settled_more s [] p false v h.4))
 
 pub steps-counted : (rules : Rules) (s : System) (p : List Bool) → AllByRecursion (IsCounted (is_node rules s)) (remaining rules s p)
 steps-counted rules s p = all_kept _ (on_path (not_before p)) (walk rules s []) (walk_from-counted rules s (length s.columns - 0) [] refl)

@@ -1,3 +1,4 @@
+pub mod CellCounts
 pub mod StoredColumns
 pub mod SortedCells
 pub mod PositiveCells

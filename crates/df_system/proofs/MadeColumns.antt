@@ -1,13 +1,11 @@
 -- Columns that are made one after another.
-use Rattle.std.proofs.Common.{◌≡◌, ◌⊎◌, ℕ, suc, ◌+◌, ◌-◌, ◌*◌, ◌<◌, ◌≤◌, List, [], ◌∷◌, ◌++◌, length, get_or, map, take, drop, refl, sym, ap, ap₂, ◌∙◌, subst, arith, inl, inr, length-append}
+use Rattle.std.proofs.Common.{◌≡◌, ◌⊎◌, ℕ, suc, ◌+◌, ◌-◌, ◌<◌, ◌≤◌, List, [], ◌∷◌, ◌++◌, length, get_or, take, drop, refl, sym, ap, ap₂, ◌∙◌, arith, inl, inr, length-append}
 use Rattle.std.specs.Prelude.{slice_range}
-use Rattle.std.specs.List.{AllByRecursion}
 use Rattle.std.specs.List.Sorted.{IsNonDecreasing}
 use Rattle.std.proofs.lemmas.Bool.{cases_lt}
-use Rattle.std.proofs.lemmas.List.{take-append-le, drop-append-le, get_or_append_left, get_or_push, length-drop, length-take-le, take_all, get_or_default, map-append}
+use Rattle.std.proofs.lemmas.List.{take-append-le, drop-append-le, get_or_append_left, get_or_push, length-drop, length-take-le, take_all, get_or_default}
 use Rattle.std.proofs.Math.Seq.{drop-append_seam}
 use Rattle.df_walk.specs.declared.Cell.{Cell}
-use Rattle.df_walk.specs.Assignments.{total}
 use Rattle.df_system.specs.Storage.{AreStarts, AreMade, parts_from, columns_of, cell_count}
 
 -- a part of the front of a longer list
@@ -94,21 +92,6 @@ cells_counted [] cells s = absurd (omega (arith, s.some))
 cells_counted (start ∷ ends) cells s =
     let first : start ≡ 0 = s.begin in
     omega (arith, parts_cells start ends cells (ends_of start ends (length cells) s))
-
-total-append : (ms ns : List ℕ) → total (ms ++ ns) ≡ total ms + total ns
-total-append [] ns = omega arith
-total-append (m ∷ ms) ns = omega (arith, total-append ms ns)
-
--- a column more adds its cells
-pub cell_count-more : (columns : List (List Cell)) (column : List Cell) → cell_count (columns ++ column ∷ []) ≡ cell_count columns + length column
-cell_count-more columns column = ap total (map-append length columns (column ∷ [])) ∙ total-append (map length columns) (length column ∷ []) ∙ omega arith
-
--- columns of at most so many cells each
-pub cell_count-most : {X : Type 0} (column : X → List Cell) (most : ℕ) (xs : List X) → AllByRecursion (λ x. length (column x) ≤ most) xs → cell_count (map column xs) ≤ most * length xs
-cell_count-most column most [] h = omega arith
-cell_count-most column most (x ∷ xs) h =
-    let step : most * suc (length xs) ≡ most + most * length xs = omega arith in
-    omega (arith, step, h.0, cell_count-most column most xs h.1)
 
 -- a column was pushed
 pub record IsPushed (starts : List ℕ) (cells new : List Cell) (starts_now : List ℕ) (cells_now : List Cell) : Type 0 where

@@ -2,11 +2,12 @@
 use Rattle.std.proofs.Common.{◌≡◌, ℕ, ◌+◌, ◌-◌, ◌^◌, ◌<◌, Bool, true, false, List, [], length, set, Some, None, refl, sym, ap, ◌∙◌, arith}
 use Rattle.std.specs.Prelude.{slice_get}
 use Rattle.std.proofs.lemmas.Bool.{not-false, not-true}
+use Rattle.df_lists.proofs.ListPlaces.{slice_get-set}
 use Rattle.df_walk.specs.Systems.{System, entries, entry_of, cells}
 use Rattle.df_walk.specs.Assignments.{Decisions, taken, cap, is_met, is_settled, least_row}
 use Rattle.df_walk.proofs.EntryLaws.{entry_is}
 use Rattle.df_walk.proofs.RowTests.{least_row_is, least_row_none, rows_pass, row_fails}
-use Rattle.df_walk.proofs.DecisionLaws.{cap-set, slice_get-set, taken-set_no, taken-set_yes, taken_cap_le}
+use Rattle.df_walk.proofs.DecisionLaws.{cap-set, taken-set_no, taken-set_yes, taken_cap_le}
 use Rattle.df_system.specs.declared.tallies.Tally.{Tally}
 use Rattle.df_system.specs.Tallies.{tally_at, tally_of, changed, change_of, change_back, CanChange, ChangesAlong, AreTallied, IsFirst, is_unmet_tally}
 use Rattle.df_system.proofs.DecisionTrails.{set_back}

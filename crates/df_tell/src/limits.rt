@@ -31,7 +31,7 @@ pub fn write_limit<K: Sink>(limit: Limit, out: &mut K) -> Result<(), WriteFault>
 }
 
 // Fills the buffer with that line.
-#[tactic(auto, unfolding(crate::specs::Limits::limit_text), using(crate::proofs::Numbers::number_is_short))]
+#[tactic(auto, unfolding(crate::specs::Limits::limit_text), using(df_io::proofs::NumbersBack::decimal_short))]
 fn fill_limit(line: &mut LineBuf, limit: Limit)
     ensures { line.new.items ≡ limit_text limit }
 {
@@ -63,7 +63,7 @@ fn fill_limit(line: &mut LineBuf, limit: Limit)
 }
 
 // Appends the limit itself, and the end of the line. The buffer has room for them: 28 bytes or fewer.
-#[tactic(auto, unfolding(crate::specs::Limits::bound_text), using(crate::proofs::Numbers::number_is_short))]
+#[tactic(auto, unfolding(crate::specs::Limits::bound_text), using(df_io::proofs::NumbersBack::decimal_short))]
 fn put_bound(line: &mut LineBuf, most: u64)
     requires { array_vec_len line.old ≤ 900 }
     ensures { line.new.items ≡ line.old.items ++ bound_text most }

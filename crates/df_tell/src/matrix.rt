@@ -111,7 +111,7 @@ fn after_entry(next: usize, entry: u32) -> usize
 }
 
 // Fills the buffer with the first line: how many rows and orbits there are, and how many orbits are kept.
-#[tactic(auto, unfolding(crate::specs::Matrix::counts_line), using(crate::proofs::Numbers::number_is_short))]
+#[tactic(auto, unfolding(crate::specs::Matrix::counts_line), using(df_io::proofs::NumbersBack::decimal_short))]
 fn fill_counts(line: &mut LineBuf, matrix: &OrbitMatrix)
     ensures { line.new.items ≡ counts_line (length (targets_of matrix.now)) (length (orbits_of matrix.now)) (length (columns_of matrix.now)) }
 {
@@ -142,7 +142,7 @@ fn fill_row(line: &mut LineBuf, matrix: &OrbitMatrix, row: u32)
 }
 
 // Fills the buffer with the line of a row of pairs: its number, its representative and its target.
-#[tactic(auto, unfolding(crate::specs::Matrix::row_line), using(crate::proofs::Numbers::number_is_short))]
+#[tactic(auto, unfolding(crate::specs::Matrix::row_line), using(df_io::proofs::NumbersBack::decimal_short))]
 fn fill_pair_row(line: &mut LineBuf, problem: &Problem, row: u32, p: Point, q: Point, target: u32)
     ensures { line.new.items ≡ row_line (codes " pair ") problem.now row (p ∷ q ∷ []) target }
 {
@@ -162,7 +162,7 @@ fn fill_pair_row(line: &mut LineBuf, problem: &Problem, row: u32, p: Point, q: P
 
 // Fills the buffer with the line of the row of a required orbit: its number, the orbit's representative, of at most 16
 // points, and its target.
-#[tactic(auto, unfolding(crate::specs::Matrix::row_line), using(crate::proofs::Numbers::number_is_short))]
+#[tactic(auto, unfolding(crate::specs::Matrix::row_line), using(df_io::proofs::NumbersBack::decimal_short))]
 fn fill_block_row(line: &mut LineBuf, problem: &Problem, row: u32, block: &Block, target: u32)
     requires { length block.now ≤ 16 }
     ensures { line.new.items ≡ row_line (codes " block ") problem.now row block.now target }
@@ -194,7 +194,7 @@ fn fill_head(line: &mut LineBuf, matrix: &OrbitMatrix, orbit: usize)
 }
 
 // Fills the buffer with the text of an entry.
-#[tactic(auto, unfolding(crate::specs::Matrix::entry_text), using(crate::proofs::Numbers::number_is_short))]
+#[tactic(auto, unfolding(crate::specs::Matrix::entry_text), using(df_io::proofs::NumbersBack::decimal_short))]
 fn fill_entry(line: &mut LineBuf, entry: u32)
     ensures { line.new.items ≡ entry_text entry }
 {
@@ -218,7 +218,7 @@ fn fill_end(line: &mut LineBuf, matrix: &OrbitMatrix, orbit: usize)
 }
 
 // Fills the buffer with the end of the line of a kept orbit: its column.
-#[tactic(auto, unfolding(crate::specs::Matrix::column_text), using(crate::proofs::Numbers::number_is_short))]
+#[tactic(auto, unfolding(crate::specs::Matrix::column_text), using(df_io::proofs::NumbersBack::decimal_short))]
 fn fill_column(line: &mut LineBuf, column: u32)
     ensures { line.new.items ≡ column_text column }
 {

@@ -54,7 +54,7 @@ fn fill_orbit_at(line: &mut LineBuf, one: &[u8], problem: &Problem, orbits: &Orb
 
 // Fills the buffer with the line of an orbit: a word of at most 16 bytes, the space after it included, the orbit's
 // representative, of at most 16 points, and how many members it has.
-#[tactic(auto, unfolding(crate::specs::Orbits::orbit_line), using(crate::proofs::Numbers::number_is_short))]
+#[tactic(auto, unfolding(crate::specs::Orbits::orbit_line), using(df_io::proofs::NumbersBack::decimal_short))]
 fn fill_orbit(line: &mut LineBuf, word: &[u8], problem: &Problem, representative: &Block, size: u32)
     requires word { length word.now ≤ 16 }
     requires representative { length representative.now ≤ 16 }

@@ -17,7 +17,7 @@ pub fn write_refusal<K: Sink>(error: &SourceError, out: &mut K) -> Result<(), Wr
 }
 
 // Fills the buffer with that line.
-#[tactic(auto, unfolding(crate::specs::Refusal::refusal_text), using(crate::proofs::Numbers::number_is_short))]
+#[tactic(auto, unfolding(crate::specs::Refusal::refusal_text), using(df_io::proofs::NumbersBack::decimal_short))]
 fn fill_refusal(line: &mut LineBuf, error: &SourceError)
     ensures { line.new.items ≡ refusal_text error.now }
 {

@@ -15,7 +15,7 @@ pub fn write_usage<K: Sink>(word: usize, out: &mut K) -> Result<(), WriteFault>
 }
 
 // Fills the buffer with that line.
-#[tactic(auto, unfolding(crate::specs::Usage::usage_text), using(crate::proofs::Numbers::number_is_short))]
+#[tactic(auto, unfolding(crate::specs::Usage::usage_text), using(df_io::proofs::NumbersBack::decimal_short))]
 fn fill_usage(line: &mut LineBuf, word: usize)
     ensures { line.new.items ≡ usage_text word }
 {

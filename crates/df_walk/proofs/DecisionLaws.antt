@@ -1,5 +1,5 @@
 -- What one decision does to what is taken and to the cap.
-use Rattle.std.proofs.Common.{◌≡◌, ℕ, suc, zero, ◌+◌, ◌*◌, ◌≤◌, Bool, true, false, List, [], ◌∷◌, length, get_or, set, drop, Option, Some, None, refl, ap, arith, ◌<◌}
+use Rattle.std.proofs.Common.{◌≡◌, ℕ, suc, zero, ◌+◌, ◌*◌, ◌≤◌, Bool, true, false, List, [], ◌∷◌, length, get_or, set, drop, Some, None, refl, ap, arith, ◌<◌}
 use Rattle.std.specs.Prelude.{slice_get}
 use Rattle.df_walk.specs.Systems.{System, entries, entry}
 use Rattle.df_walk.specs.Assignments.{Decisions, open_values, taken, cap}
@@ -64,9 +64,3 @@ sums_bounded s ds row most h =
     let bound = cap_bounded (entries s row) most (λ k l. h k (omega arith)) in
     let same = ap (λ n. most * n) long in
     omega (arith, taken_cap_le (entries s row) ds)
-
--- a decision that was made anew is there
-pub slice_get-set : (ds : Decisions) (c : ℕ) (x y : Option Bool) → slice_get ds c ≡ Some x → slice_get (set ds c y) c ≡ Some y
-slice_get-set [] c x y h = absurd (let e = h in cc)
-slice_get-set (d ∷ ds) zero x y h = refl
-slice_get-set (d ∷ ds) (suc c) x y h = slice_get-set ds c x y h

@@ -1,19 +1,16 @@
 -- The solutions with given decisions, split by one more decision.
-use Rattle.std.proofs.Common.{◌≡◌, ℕ, suc, zero, ◌<◌, Bool, true, false, not, cond, List, [], ◌∷◌, ◌++◌, length, get_or, set, map, Some, None, refl, sym, ap, ◌∙◌, arith}
+use Rattle.std.proofs.Common.{◌≡◌, ℕ, suc, zero, ◌<◌, Bool, true, false, not, List, [], ◌∷◌, ◌++◌, length, get_or, set, map, Some, None, refl, sym, ap, ◌∙◌, arith}
 use Rattle.std.specs.Prelude.{filter, slice_get, ◌&&◌}
 use Rattle.std.specs.List.Sorted.{IsPermutation}
 use Rattle.std.proofs.lemmas.List.Sorted.{IsPermutation-filter_both}
 use Rattle.std.proofs.lemmas.List.{map-append, append-nil}
 use Rattle.std.proofs.lemmas.List.Elements.{filter_agree}
+use Rattle.std.proofs.Math.Bool.{and_comm, and_assoc}
+use Rattle.df_lists.proofs.TestLaws.{filter-filter, filter_never}
 use Rattle.df_walk.specs.Systems.{System}
 use Rattle.df_walk.specs.Assignments.{Decisions}
 use Rattle.df_walk.specs.Solutions.{keeps, is_solution, solutions_with, vectors}
 use Rattle.df_walk.proofs.VectorFilters.{filter-vectors}
-
--- a test that none passes
-pub filter_never : {X : Type 0} (xs : List X) → filter (λ x. false) xs ≡ []
-filter_never [] = refl
-filter_never (x ∷ xs) = filter_never xs
 
 filter_yes : (ds : Decisions) (t : List Bool → Bool) (n : ℕ) → filter (λ x. keeps (Some true ∷ ds) x && t x) (vectors (suc n)) ≡ map (λ x. true ∷ x) (filter (λ x. keeps ds x && t (true ∷ x)) (vectors n))
 filter_yes ds t n = rw (filter-vectors (λ x. keeps (Some true ∷ ds) x && t x) n, filter_never (vectors n), append-nil)
@@ -36,31 +33,6 @@ path_split s p h = filter_path p (is_solution s) (length s.columns) h
 -- the vector's value at a column
 abbrev bit : List Bool → ℕ → Bool
 bit x c = get_or x c false
-
--- a filter of a filter
-pub filter-filter : {X : Type 0} (q p : X → Bool) (xs : List X) → filter q (filter p xs) ≡ filter (λ x. p x && q x) xs
-filter-filter q p [] = refl
-filter-filter q p (x ∷ xs) =
-    elim (p x) as (λ b. filter q (cond b (x ∷ filter p xs) (filter p xs)) ≡ cond (b && q x) (x ∷ filter (λ x. p x && q x) xs) (filter (λ x. p x && q x) xs)) [
-      | true ↦ ap (λ l. cond (q x) (x ∷ l) l) (filter-filter q p xs)
-      | false ↦ filter-filter q p xs
-    ]
-
-pub and-false : (b : Bool) → (b && false) ≡ false
-and-false true = refl
-and-false false = refl
-
-pub and-true : (b : Bool) → (b && true) ≡ b
-and-true true = refl
-and-true false = refl
-
-pub and_comm : (a b : Bool) → (a && b) ≡ (b && a)
-and_comm true b = sym (and-true b)
-and_comm false b = sym (and-false b)
-
-and_assoc : (a b c : Bool) → ((a && b) && c) ≡ (a && (b && c))
-and_assoc true b c = refl
-and_assoc false b c = refl
 
 keeps-set : (ds : Decisions) (c : ℕ) (x : List Bool) → slice_get ds c ≡ Some None → (keeps (set ds c (Some true)) x ≡ (keeps ds x && bit x c)) × (keeps (set ds c (Some false)) x ≡ (keeps ds x && not (bit x c)))
 keeps-set [] c x h = absurd (let e = h in cc)

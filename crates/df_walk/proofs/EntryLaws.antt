@@ -1,15 +1,10 @@
 -- The entries of a row, column by column.
-use Rattle.std.proofs.Common.{◌≡◌, ℕ, suc, zero, ◌+◌, ◌<◌, List, [], ◌∷◌, ◌++◌, length, get_or, map, refl, arith}
+use Rattle.std.proofs.Common.{◌≡◌, ℕ, suc, zero, ◌<◌, List, [], ◌∷◌, length, get_or, map, refl, arith, ◌+◌, ◌++◌}
 use Rattle.std.specs.List.{AllByRecursion}
 use Rattle.std.proofs.lemmas.Bool.{eq-eqb}
 use Rattle.std.proofs.lemmas.List.{length-map}
 use Rattle.df_walk.specs.declared.Cell.{Cell}
 use Rattle.df_walk.specs.Systems.{System, entry_of, entries, cells, IsColumn, IsSystem}
-
--- the entry of joined cells
-pub entry_of-append : (a b : List Cell) (row : ℕ) → entry_of (a ++ b) row ≡ entry_of a row + entry_of b row
-entry_of-append [] b row = omega arith
-entry_of-append (c ∷ a) b row = omega (arith, entry_of-append a b row)
 
 pub length-entries : (s : System) (row : ℕ) → length (entries s row) ≡ length s.columns
 length-entries s row = length-map s.columns (λ column. entry_of column row)
@@ -44,3 +39,8 @@ pub has_positive : (s : System) (column : ℕ) → IsSystem s → column < lengt
 has_positive s column ok h =
     let r = first_positive (length s.targets) (cells s column) (column_of s column ok h) in
     (r.0, r.1, rw (entry_is s r.0 column) r.2)
+
+-- a row's entries of joined cells
+pub entry_of-append : (a b : List Cell) (row : ℕ) → entry_of (a ++ b) row ≡ entry_of a row + entry_of b row
+entry_of-append [] b row = omega arith
+entry_of-append (c ∷ a) b row = omega (arith, entry_of-append a b row)

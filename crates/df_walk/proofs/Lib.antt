@@ -24,4 +24,3 @@ pub mod WalkCuts
 pub mod NeedBounds
 pub mod WrittenPaths
 pub mod ColumnWidths
-pub mod MemberLaws

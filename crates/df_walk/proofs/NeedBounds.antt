@@ -2,12 +2,12 @@
 use Rattle.std.proofs.Common.{◌≡◌, ℕ, ◌<◌, Bool, true, false, List, [], ◌∷◌, length, map, Some, refl, sym, ap, ◌∙◌, arith}
 use Rattle.std.specs.Prelude.{filter, ◌&&◌}
 use Rattle.std.proofs.lemmas.Bool.{false≢true, and_parts, and_from}
+use Rattle.df_lists.proofs.TestLaws.{filter-filter}
 use Rattle.df_walk.specs.Systems.{System, entries}
 use Rattle.df_walk.specs.Assignments.{Decisions, open_values, divisor}
 use Rattle.df_walk.specs.Solutions.{keeps, is_solution, solutions, vectors}
 use Rattle.df_walk.specs.LawStatements.{NeedIsWithin}
 use Rattle.df_walk.proofs.VectorFilters.{vectors_one}
-use Rattle.df_walk.proofs.DecisionSplits.{filter-filter}
 use Rattle.df_walk.proofs.CommonDivisors.{common_divisor_common}
 use Rattle.df_walk.proofs.RowBounds.{taken_le, le_cap}
 use Rattle.df_walk.proofs.NoSolutions.{keeps_and_solves, multiple_more}

@@ -2,13 +2,13 @@
 use Rattle.std.proofs.Common.{◌≡◌, ℕ, ◌+◌, ◌*◌, ◌%◌, ◌<◌, Bool, true, false, List, [], ◌∷◌, length, Some, None, refl, sym, ap, ◌∙◌, arith}
 use Rattle.std.specs.Prelude.{◌&&◌, ◌==◌}
 use Rattle.std.specs.List.{list_all}
-use Rattle.std.proofs.lemmas.Bool.{false≢true, true≢false, and_parts, ltb-true, eqb-true, eq-eqb, not_from_true}
+use Rattle.std.proofs.lemmas.Bool.{false≢true, true≢false, and_parts, ltb-true, eqb-true, eq-eqb, not_from_true, false_from_ne_true}
 use Rattle.std.proofs.Math.Nat.{add-mul-mod_self_right}
 use Rattle.df_walk.specs.Systems.{System, entries, target}
 use Rattle.df_walk.specs.Assignments.{Decisions, open_values, is_multiple, taken, is_over, is_under, leaves_rest}
 use Rattle.df_walk.specs.Solutions.{keeps, product, is_solution, solutions_with}
 use Rattle.df_walk.specs.Logs.{RowPasses, is_residue}
-use Rattle.df_walk.proofs.VectorFilters.{not_true, vectors_none}
+use Rattle.df_walk.proofs.VectorFilters.{vectors_none}
 use Rattle.df_walk.proofs.RowBounds.{taken_le, le_cap}
 use Rattle.df_walk.proofs.RowTests.{row_passes}
 use Rattle.df_walk.proofs.CommonDivisors.{times_of}
@@ -27,7 +27,7 @@ keeps_and_solves s ds x h =
     }
 
 pub none_solves : (s : System) (ds : Decisions) → ((x : List Bool) → length x ≡ length s.columns → KeepsAndSolves s ds x → ⊥) → solutions_with s ds ≡ []
-none_solves s ds h = vectors_none (length s.columns) (λ x. keeps ds x && is_solution s x) (λ x l. not_true (keeps ds x && is_solution s x) (λ t. h x l (keeps_and_solves s ds x t)))
+none_solves s ds h = vectors_none (length s.columns) (λ x. keeps ds x && is_solution s x) (λ x l. false_from_ne_true (keeps ds x && is_solution s x) (λ t. h x l (keeps_and_solves s ds x t)))
 
 pub over_none : (s : System) (ds : Decisions) (row : ℕ) → RowPasses s row (is_over s ds) → solutions_with s ds ≡ []
 over_none s ds row h = none_solves s ds (λ x l k.

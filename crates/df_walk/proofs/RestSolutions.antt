@@ -4,13 +4,15 @@ use Rattle.std.specs.Prelude.{filter, ◌&&◌}
 use Rattle.std.proofs.lemmas.Bool.{false≢true}
 use Rattle.std.proofs.lemmas.List.{append_assoc, append-nil}
 use Rattle.std.proofs.lemmas.List.Elements.{filter_agree, filter_map-append}
+use Rattle.std.proofs.Math.Bool.{and_comm}
+use Rattle.df_lists.proofs.TestLaws.{filter-filter, filter_never}
 use Rattle.df_walk.specs.declared.Rules.{Rules}
 use Rattle.df_walk.specs.Systems.{System, IsSystem}
 use Rattle.df_walk.specs.Solutions.{keeps, is_solution, solutions_with, vectors}
 use Rattle.df_walk.specs.Walks.{decided, walk, solutions_in, solution_of}
 use Rattle.df_walk.specs.Paths.{not_before, rest}
 use Rattle.df_walk.specs.Remains.{later_walk, walk_on}
-use Rattle.df_walk.proofs.DecisionSplits.{filter-filter, and_comm, filter_path, filter_never}
+use Rattle.df_walk.proofs.DecisionSplits.{filter_path}
 use Rattle.df_walk.proofs.WalkSolutions.{solutions_in-walk_from}
 
 -- what a kept path says of the order

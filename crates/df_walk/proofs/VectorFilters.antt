@@ -1,22 +1,10 @@
 -- Filters over all 0-1 vectors of a length, by induction on the length.
-use Rattle.std.proofs.Common.{◌≡◌, ℕ, suc, zero, Bool, true, false, cond, List, [], ◌∷◌, ◌++◌, length, map, refl, ap, arith}
+use Rattle.std.proofs.Common.{◌≡◌, ℕ, suc, zero, Bool, true, false, List, [], ◌∷◌, ◌++◌, length, map, refl, ap, arith}
 use Rattle.std.specs.Prelude.{filter}
 use Rattle.std.proofs.lemmas.List.Elements.{filter-append}
+use Rattle.std.proofs.lemmas.Bool.{false_from_ne_true}
+use Rattle.df_lists.proofs.TestLaws.{filter-map}
 use Rattle.df_walk.specs.Solutions.{vectors}
-
--- what isn't true is false
-pub not_true : (b : Bool) → (b ≡ true → ⊥) → b ≡ false
-not_true true h = absurd (h refl)
-not_true false h = refl
-
--- a filter of images
-pub filter-map : {X Y : Type 0} (p : Y → Bool) (f : X → Y) (xs : List X) → filter p (map f xs) ≡ map f (filter (λ x. p (f x)) xs)
-filter-map p f [] = refl
-filter-map p f (x ∷ xs) =
-    elim (p (f x)) as (λ b. cond b (f x ∷ filter p (map f xs)) (filter p (map f xs)) ≡ map f (cond b (x ∷ filter (λ x. p (f x)) xs) (filter (λ x. p (f x)) xs))) [
-      | true ↦ ap (λ l. f x ∷ l) (filter-map p f xs)
-      | false ↦ filter-map p f xs
-    ]
 
 -- the two halves of a filter over all vectors
 pub filter-vectors : (p : List Bool → Bool) (n : ℕ) → filter p (vectors (suc n)) ≡ map (λ x. true ∷ x) (filter (λ x. p (true ∷ x)) (vectors n)) ++ map (λ x. false ∷ x) (filter (λ x. p (false ∷ x)) (vectors n))
@@ -40,6 +28,6 @@ vectors_one zero p [] l t only = rw t
 vectors_one zero p (b ∷ v) l t only = absurd (omega arith)
 vectors_one (suc n) p [] l t only = absurd (omega arith)
 vectors_one (suc n) p (true ∷ v) l t only =
-    rw (filter-vectors p n, vectors_one n (λ x. p (true ∷ x)) v (omega arith) t (λ x m h. let e = only (true ∷ x) (ap suc m) h in cc), vectors_none n (λ x. p (false ∷ x)) (λ x m. not_true (p (false ∷ x)) (λ h. let e = only (false ∷ x) (ap suc m) h in cc)))
+    rw (filter-vectors p n, vectors_one n (λ x. p (true ∷ x)) v (omega arith) t (λ x m h. let e = only (true ∷ x) (ap suc m) h in cc), vectors_none n (λ x. p (false ∷ x)) (λ x m. false_from_ne_true (p (false ∷ x)) (λ h. let e = only (false ∷ x) (ap suc m) h in cc)))
 vectors_one (suc n) p (false ∷ v) l t only =
-    rw (filter-vectors p n, vectors_one n (λ x. p (false ∷ x)) v (omega arith) t (λ x m h. let e = only (false ∷ x) (ap suc m) h in cc), vectors_none n (λ x. p (true ∷ x)) (λ x m. not_true (p (true ∷ x)) (λ h. let e = only (true ∷ x) (ap suc m) h in cc)))
+    rw (filter-vectors p n, vectors_one n (λ x. p (false ∷ x)) v (omega arith) t (λ x m h. let e = only (false ∷ x) (ap suc m) h in cc), vectors_none n (λ x. p (true ∷ x)) (λ x m. false_from_ne_true (p (true ∷ x)) (λ h. let e = only (true ∷ x) (ap suc m) h in cc)))

@@ -4,6 +4,8 @@ use Rattle.std.specs.Prelude.{filter, ◌&&◌, ◌||◌}
 use Rattle.std.proofs.lemmas.List.{append_assoc, append-nil, map-append}
 use Rattle.std.proofs.lemmas.Simd.{map-map}
 use Rattle.std.proofs.lemmas.List.Elements.{filter_agree, filter-append, filter_map-append}
+use Rattle.std.proofs.Math.Bool.{or_assoc, and-false, and-true}
+use Rattle.df_lists.proofs.TestLaws.{filter-map, filter_never}
 use Rattle.df_walk.specs.declared.Rules.{Rules}
 use Rattle.df_walk.specs.declared.Entry.{Entry}
 use Rattle.df_walk.specs.declared.Entry.TheVariants.{Branch, Over, Under, Settled, Residue, Cut}
@@ -12,15 +14,9 @@ use Rattle.df_walk.specs.Assignments.{is_settled}
 use Rattle.df_walk.specs.Walks.{Step, decided, entry_at, below, walk_from, walk, node_of, nodes_in}
 use Rattle.df_walk.specs.Paths.{is_live, settled_between, is_node, paths, nodes, not_before, load}
 use Rattle.df_walk.specs.Remains.{walk_on, IsVisited}
-use Rattle.df_walk.proofs.VectorFilters.{filter-map}
-use Rattle.df_walk.proofs.DecisionSplits.{and-false, and-true, filter_never}
 use Rattle.df_walk.proofs.EntryMeanings.{Says, entry_says}
 use Rattle.df_walk.proofs.DeadPaths.{over_dead, under_dead, residue_dead, counts, live_counts}
 use Rattle.df_walk.proofs.WalkOrder.{on_path, walk_is, walk-not_before}
-
-or_assoc : (a b c : Bool) → ((a || b) || c) ≡ (a || (b || c))
-or_assoc true b c = refl
-or_assoc false b c = refl
 
 -- a settled proper prefix of the joined path is one of the first part or comes later
 settled_between-append : (s : System) (before p q : List Bool) → settled_between s before (p ++ q) ≡ (settled_between s before p || settled_between s (before ++ p) q)

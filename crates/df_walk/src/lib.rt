@@ -1,6 +1,10 @@
 //! Systems of rows over columns, their solutions, the walk through their paths, and the logs that prove a list of solutions whole: definitions in `specs/`, and their laws, each the contract of a public function with an empty body.
-//! It stands on `arrayvec` alone, for the fixed list of rows in a `cut`. No other code is here, so that an edit of the solver's code never proves a law again.
+//! It stands on df_lists, for laws on lists, and on `arrayvec`, for the fixed list of rows in a `cut`. No other code is here, so that an edit of the solver's code never proves a law again.
 //! The crates above cite the definitions in their contracts, the types below as their own, and the laws in their proofs.
+//! Laws for the rooms above: proofs/ColumnWidths, proofs/CommonDivisors, proofs/DeadPaths, proofs/DecisionLaws,
+//! proofs/EntryLaws, proofs/EntryMeanings, proofs/LogForms, proofs/NodeVisits, proofs/PaddedPaths,
+//! proofs/RestSolutions, proofs/RowTests, proofs/WalkCuts, proofs/WalkLogs, proofs/WalkNodes, proofs/WalkOrder,
+//! proofs/WalkSolutions, proofs/WalkSteps.
 #![tactic(auto)]
 
 pub mod laws;

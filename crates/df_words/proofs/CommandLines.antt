@@ -7,6 +7,7 @@ use Rattle.std.specs.Option.{option_and_then, option_map}
 use Rattle.std.proofs.lemmas.Option.{same_Some, option_and_then_some}
 use Rattle.std.proofs.lemmas.List.Elements.{All-head, All-tail, All-cons, All-nil}
 use Rattle.std.proofs.lemmas.List.Kept.{AllPairs-cons}
+use Rattle.std.proofs.lemmas.Bool.{and_from}
 use Rattle.df_words.specs.Table.{takes, flagged, named, number, value, number_in, nothing_stated, with_option, command_named}
 use Rattle.df_words.specs.CommandLines.{Item, words_of, IsNumber, IsOption, Agree, with_items, IsCommandLine}
 use Rattle.df_words.specs.Reading.{reading_from, begun, opened, with_flag, is_free, ended, command_of, CommandLineLaw}
@@ -18,7 +19,7 @@ use Rattle.df_words.specs.declared.command.Command.{Command}
 use Rattle.df_words.specs.declared.words.Reading.{Reading}
 use Rattle.df_words.specs.declared.words.Reading.TheVariants.{Start, Number, Given, Value}
 use Rattle.df_words.proofs.Readings.{reading_on, Asks, asks_on, map_some, gated}
-use Rattle.df_words.proofs.Rows.{together, was_free, is_free_still}
+use Rattle.df_words.proofs.Rows.{was_free, is_free_still}
 
 -- options of a command, after those that are stated
 record AreOptions (name : Name) (s : Stated) (items : List Item) : Type 0 where
@@ -27,7 +28,7 @@ record AreOptions (name : Name) (s : Stated) (items : List Item) : Type 0 where
   pub agree : AllPairs Agree items
 
 gate : (a b : Bool) (x : Reading) → a ≡ true → b ≡ true → cond (a && b) (Some x) None ≡ Some x
-gate a b x p q = ap (λ c. cond c (Some x) None) (together a b p q)
+gate a b x p q = ap (λ c. cond c (Some x) None) (and_from a b p q)
 
 -- an option's number is read
 value_read : (name : Name) (n : ℕ) (s : Stated) (f : Flag) (wanted : Option Bounds) (more : List (List ℕ)) (m : ℕ) → value f ≡ wanted → IsNumber wanted more m → reading_from (opened wanted name n s f) more ≡ Some (Given name n (with_option s f m))

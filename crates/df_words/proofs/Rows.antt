@@ -1,6 +1,7 @@
 -- What the proofs need of the rows: a number that is wanted can be spelled, and options that are stated are told apart.
 use Rattle.std.proofs.Common.{◌≡◌, ℕ, Bool, true, false, not, ◌&&◌, List, codes, Some, refl}
 use Rattle.std.specs.Option.{is_some}
+use Rattle.std.proofs.lemmas.Bool.{and_from}
 use Rattle.df_words.specs.Table.{excludes, number, value, number_in, has, with_option}
 use Rattle.df_words.specs.Reading.{admits, is_free}
 use Rattle.df_words.specs.declared.table.Name.{Name}
@@ -16,11 +17,6 @@ spelled name wanted = absurd (cc)
 pub valued : (flag : Flag) → is_some (value flag) ≡ true → (word : List ℕ) × (n : ℕ) × (number_in (value flag) word ≡ Some n)
 valued flag.Budget wanted = (codes "1", 1, refl)
 valued flag wanted = absurd (cc)
-
-pub together : (a b : Bool) → a ≡ true → b ≡ true → (a && b) ≡ true
-together true true p q = refl
-together true false p q = absurd (cc)
-together false b p q = absurd (cc)
 
 no : (e : Bool) → not e ≡ true → e ≡ false
 no true h = absurd (cc)
@@ -51,7 +47,7 @@ apart s g h = four (admits s flag.Budget g) (admits s flag.Log g) (admits s flag
 
 joined : (s : Stated) (g : Flag) → AreAdmitting s g → is_free s g ≡ true
 unfolding AreAdmitting
-joined s g h = together _ _ h.0 (together _ _ h.1 (together _ _ h.2 h.3))
+joined s g h = and_from _ _ h.0 (and_from _ _ h.1 (and_from _ _ h.2 h.3))
 
 was_admitting : (s : Stated) (f : Flag) (n : ℕ) (g : Flag) → AreAdmitting (with_option s f n) g → AreAdmitting s g × (excludes f g ≡ false)
 unfolding AreAdmitting

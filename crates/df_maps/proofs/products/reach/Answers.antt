@@ -1,8 +1,8 @@
 use Rattle.std.proofs.Common.{◌≡◌, ◌%◌, ℕ, suc, ◌+◌, ◌∙◌, ap, sym, false, true, get_or, set, eqb, arith, subst, eq-eqb, eqb-true, ⊎_elim, mod-lt}
 use Rattle.std.proofs.lemmas.Bool.{or_right, or_cases, both_ways}
 use Rattle.df_lists.specs.Membership.{In}
+use Rattle.df_lists.proofs.SetLaws.{In-set}
 use Rattle.df_maps.specs.Products.{products, products_within}
-use Rattle.df_acting.proofs.ImageLaws.{In-set}
 use Rattle.df_maps.proofs.MarkSteps.{set_mark}
 use Rattle.df_maps.proofs.ProductLaws.{products_one, products_first, one_in, step_cases, within_set, products_end}
 use Rattle.df_maps.proofs.products.reach.Goals as goal

@@ -2,7 +2,7 @@ use Rattle.std.proofs.Common.{ℕ, ◌++◌, ◌∷◌, [], List, length, sym, a
 use Rattle.std.proofs.lemmas.List.{map_more}
 use Rattle.df_walk.specs.declared.Cell.{Cell}
 use Rattle.df_system.specs.Storage.{cell_count}
-use Rattle.df_system.proofs.MadeColumns.{cell_count-more}
+use Rattle.df_system.proofs.CellCounts.{cell_count-more}
 use Rattle.df_kramer_mesner.specs.OrbitSystems.{cells_of, orbit_at}
 use Rattle.df_matrix.proofs.columns.columns_of.Goals as goal
 

@@ -2,8 +2,8 @@ use Rattle.std.proofs.Common.{◌≡◌, ◌+◌, ◌++◌, ◌∷◌, [], lengt
 use Rattle.std.specs.List.Sorted.{IsStrictlyIncreasing}
 use Rattle.std.proofs.lemmas.Option.{slice_get_within}
 use Rattle.df_lists.specs.Membership.{In}
+use Rattle.df_lists.proofs.ListPlaces.{In-get_or}
 use Rattle.df_lang.specs.Problems.{IsStated}
-use Rattle.df_maps.proofs.SetLists.{In-get_or}
 use Rattle.df_kramer_mesner.specs.OrbitSystems.{has_alike, orbits_of, orbit_at, cells_of}
 use Rattle.df_kramer_mesner.specs.Laws.{AreSparse}
 use Rattle.df_matrix.proofs.AllCells.{cells_own, cells_others}

@@ -1,6 +1,7 @@
 use Rattle.std.proofs.Common.{Err}
 use Rattle.std.proofs.lemmas.List.Sorted.{searched}
-use Rattle.df_matrix.proofs.PlaceLists.{increasing_order, not_listed}
+use Rattle.df_lists.proofs.RisingLists.{increasing_order}
+use Rattle.df_matrix.proofs.PlaceLists.{not_listed}
 use Rattle.df_matrix.proofs.columns.place_in.Goals as goal
 
 pub returns-in-Err-clause-none : goal.returns-in-Err-clause-none

@@ -1,12 +1,12 @@
 use Rattle.std.proofs.Common.{ℕ, ◌<◌, map, List, All, length, get_or, sym, ap, ap₂, subst, arith, ◌∙◌}
 use Rattle.std.proofs.lemmas.List.{length-map}
 use Rattle.std.proofs.lemmas.Option.{slice_get-get_or}
+use Rattle.df_lists.proofs.ListPlaces.{In-slice_get}
 use Rattle.df_walk.specs.declared.Cell.{Cell}
 use Rattle.df_walk.specs.Systems.{IsSystem, AreCells}
 use Rattle.df_system.specs.Storage.{IsZeroColumn, IsFirstEmpty}
 use Rattle.df_kramer_mesner.specs.OrbitSystems.{orbits_of, columns_of, is_kept, targets_of, orbit_system, cells_of, orbit_at}
 use Rattle.df_kramer_mesner.specs.Laws.{AreSparse}
-use Rattle.df_kramer_mesner.proofs.OrbitNumbers.{In-slice_get}
 use Rattle.df_matrix.specs.MatrixParts.{kept_places}
 use Rattle.df_matrix.proofs.PlaceLists.{place_passes}
 use Rattle.df_matrix.proofs.SystemColumns.{system_columns, columns_cells, none_empty}

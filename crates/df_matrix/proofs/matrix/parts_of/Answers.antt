@@ -1,9 +1,9 @@
 use Rattle.std.proofs.Common.{◌≡◌, length, ap, ◌∙◌, subst, arith, refl, inl, Some, None}
+use Rattle.df_lists.proofs.ListTotals.{count_whole}
 use Rattle.df_lang.specs.Problems.{Stated, IsStated}
 use Rattle.df_kramer_mesner.specs.OrbitSystems.{has_alike, is_kept, orbits_of, columns_of, targets_of}
 use Rattle.df_kramer_mesner.specs.Laws.{AreSparse}
 use Rattle.df_matrix.specs.Limits.{or_else, column_limit_of, entry_limit_of}
-use Rattle.df_matrix.proofs.OrbitParts.{count_within}
 use Rattle.df_matrix.proofs.PlaceLists.{places_long}
 use Rattle.df_matrix.proofs.matrix.parts_of.Goals as goal
 
@@ -21,7 +21,7 @@ judge-requires-clause-rows c =
 pub judge-requires-clause-columns : goal.judge-requires-clause-columns
 judge-requires-clause-columns c =
     let s = c.args.orbits.now in
-    omega (arith, c.len-3.ensures, c.in-Ok-kept_numbers.kept.ok.0, ap length c.in-Ok-kept_numbers.ensures, places_long (is_kept s) (orbits_of s), count_within (is_kept s) (orbits_of s), c.orbit_count.ensures.count, c.orbit_count.ensures.few)
+    omega (arith, c.len-3.ensures, c.in-Ok-kept_numbers.kept.ok.0, ap length c.in-Ok-kept_numbers.ensures, places_long (is_kept s) (orbits_of s), count_whole (is_kept s) (orbits_of s), c.orbit_count.ensures.count, c.orbit_count.ensures.few)
 
 pub returns-in-Err-clause-refused : goal.returns-in-Err-clause-refused
 returns-in-Err-clause-refused c =

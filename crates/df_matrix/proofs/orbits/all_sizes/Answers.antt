@@ -1,7 +1,7 @@
 use Rattle.std.proofs.Common.{◌≤◌, All, length, sym, ap, subst, arith, ◌∙◌}
 use Rattle.std.specs.List.Sorted.{IsStrictlyIncreasing}
+use Rattle.df_lists.proofs.SetLaws.{set_rises}
 use Rattle.df_lang.specs.Problems.{Stated, IsStated, point_count}
-use Rattle.df_matrix.proofs.PlaceLists.{sets_rise}
 use Rattle.df_matrix.proofs.orbits.all_sizes.Goals as goal
 
 pub returns-clause-sizes : goal.returns-clause-sizes
@@ -15,7 +15,7 @@ returns-clause-some c =
 pub returns-clause-rising : goal.returns-clause-rising
 returns-clause-rising c =
     let stated : IsStated c.args.problem.now = subst IsStated c.problem.view_is c.problem.invariant in
-    subst IsStrictlyIncreasing (sym (c.deref.ensures.0 ∙ ap (λ (s : Stated). s.sizes) c.problem.view_is)) (sets_rise 17 c.args.problem.now.sizes stated.sizes_rise)
+    subst IsStrictlyIncreasing (sym (c.deref.ensures.0 ∙ ap (λ (s : Stated). s.sizes) c.problem.view_is)) (set_rises 17 c.args.problem.now.sizes stated.sizes_rise)
 
 pub returns-clause-range : goal.returns-clause-range
 returns-clause-range c =

@@ -1,6 +1,6 @@
 use Rattle.std.proofs.Common.{◌≤◌, ◌∙◌, ◌+◌, ap₂, sym, arith}
+use Rattle.df_lists.proofs.ListPlaces.{all_members}
 use Rattle.df_subsets.specs.Subsets.{binomial}
-use Rattle.df_maps.proofs.MapsFacts.{all_members}
 use Rattle.df_orbits.proofs.SizeSums.{sum_more, sum_part, sums_fit, rising_distinct}
 use Rattle.df_orbits.proofs.orbits.count_blocks.Goals as goal
 

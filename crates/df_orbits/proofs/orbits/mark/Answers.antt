@@ -1,10 +1,10 @@
 use Rattle.std.proofs.Common.{◌≡◌, ◌≤◌, ◌+◌, ◌∙◌, ◌||◌, ℕ, true, false, [], ap, sym, subst, eqb, arith, length, get_or, slice_get, Some}
 use Rattle.std.specs.List.{list_any, range_with_len}
+use Rattle.std.proofs.Math.Bool.{or_assoc}
 use Rattle.df_subsets.specs.Subsets.{subsets, same_list, rank}
 use Rattle.df_subsets.proofs.BlockLaws.{block_is_set}
 use Rattle.df_maps.specs.FullMaps.{point_count, image, map_number, full_maps}
 use Rattle.df_maps.proofs.FixingCounts.{fixing, fixing_more, fixing_some, size_is}
-use Rattle.df_maps.proofs.MarkSteps.{or_assoc}
 use Rattle.df_orbits.specs.MarkedPlaces.{is_marked}
 use Rattle.df_orbits.proofs.MarkLaws.{any_more}
 use Rattle.df_orbits.proofs.NumberedMaps.{by_numbers}

@@ -1,14 +1,14 @@
 use Rattle.std.proofs.Common.{◌≡◌, ◌<◌, ◌∙◌, ap, ap₂, sym, subst, ◌||◌, eqb, ℕ, length, get_or, arith}
 use Rattle.std.proofs.lemmas.List.{take_all}
 use Rattle.std.specs.List.{list_any}
+use Rattle.std.proofs.Math.Bool.{or_comm}
 use Rattle.df_lists.specs.NumberSets.{has_member}
 use Rattle.df_subsets.specs.Blocks.{IsBlock}
 use Rattle.df_lists.proofs.RisingLists.{point_below}
+use Rattle.df_lists.proofs.TestLaws.{any_take_more}
 use Rattle.df_subsets.proofs.BlockLaws.{block_is_set}
-use Rattle.df_acting.proofs.ImageLaws.{length-image}
+use Rattle.df_acting.proofs.ImageLaws.{length-image, image_done}
 use Rattle.df_maps.specs.FullMaps.{point_count, carried, image, full_maps}
-use Rattle.df_maps.proofs.MarkSteps.{any_take_more}
-use Rattle.df_maps.proofs.ImageSteps.{image_done, or_comm}
 use Rattle.df_maps.proofs.maps.Maps.image_block.Goals as goal
 
 pub insert-requires : goal.insert-requires

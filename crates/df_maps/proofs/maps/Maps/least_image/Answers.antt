@@ -1,11 +1,12 @@
 use Rattle.std.proofs.Common.{◌≡◌, ◌∙◌, ◌+◌, ℕ, List, Bool, cond, true, false, ap, sym, subst, length, map, arith}
 use Rattle.std.specs.List.{range_with_len}
+use Rattle.std.proofs.lemmas.Simd.{map-map}
 use Rattle.df_subsets.specs.Blocks.{before, IsBlock}
 use Rattle.df_subsets.proofs.BlockOrders.{before_is}
 use Rattle.df_acting.specs.Earliest.{earliest, earliest_image}
 use Rattle.df_maps.specs.FullMaps.{MapGroup, image, map_number, full_maps, point_count}
 use Rattle.df_maps.specs.Laws.{AreGroup}
-use Rattle.df_maps.proofs.LoopSteps.{earliest_more, map-map}
+use Rattle.df_maps.proofs.LoopSteps.{earliest_more}
 use Rattle.df_maps.proofs.maps.Maps.least_image.Goals as goal
 use Rattle.df_maps.proofs.maps.Maps.least_image.Goals.{then-lt, else-lt}
 

@@ -1,10 +1,11 @@
 use Rattle.std.proofs.Common.{◌≡◌, ◌∙◌, ap, sym, refl, subst, List, ℕ, true}
+use Rattle.df_lists.proofs.ListPlaces.{all_members}
 use Rattle.df_group.specs.Subgroups.{exponent_of, is_unit}
 use Rattle.df_maps.specs.Products.{products}
 use Rattle.df_maps.specs.FullMaps.{IsMaps}
 use Rattle.df_maps.proofs.SubgroupSums.{subgroup_has}
 use Rattle.df_maps.proofs.MadeLaws.{made}
-use Rattle.df_maps.proofs.MapsFacts.{made_of, all_members}
+use Rattle.df_maps.proofs.MapsFacts.{made_of}
 use Rattle.df_maps.proofs.maps.Maps.new.Goals as goal
 
 made_same : (s t ps qs hs ks : List ℕ) (fixed : ℕ) → s ≡ t → ps ≡ qs → hs ≡ ks → made_of s fixed ps hs ≡ made_of t fixed qs ks

@@ -1,7 +1,8 @@
 use Rattle.std.proofs.Common.{◌≤◌, ℕ, List, length, sym, subst, All}
+use Rattle.df_lists.proofs.ListPlaces.{All-from_members}
 use Rattle.df_kramer_mesner.specs.OrbitSystems.{orbits_of}
 use Rattle.df_matrix.specs.MatrixParts.{AreOrbits}
-use Rattle.df_matrix.proofs.OrbitParts.{shown, blocks_listed, all_from}
+use Rattle.df_matrix.proofs.OrbitParts.{shown, blocks_listed}
 use Rattle.df_matrix.proofs.orbits.ProblemOrbits.blocks.Goals as goal
 
 pub returns-clause-orbits : goal.returns-clause-orbits
@@ -12,4 +13,4 @@ returns-clause-short c =
     let s = c.args.self.now in
     let K : AreOrbits c.args.self.now c.self.inside.maps c.self.inside.pairs c.self.inside.numbers c.self.inside.blocks = shown c.self.view_is c.self.invariant in
     let few = c.numbers_are_few.ensures s K.stated in
-    subst (All (λ (block : List ℕ). length block ≤ 16)) (sym (blocks_listed s K)) (all_from (λ (block : List ℕ). length block ≤ 16) (orbits_of s) few.orbit_high)
+    subst (All (λ (block : List ℕ). length block ≤ 16)) (sym (blocks_listed s K)) (All-from_members (λ (block : List ℕ). length block ≤ 16) (orbits_of s) few.orbit_high)

@@ -1,7 +1,7 @@
 use Rattle.std.proofs.Common.{◌≡◌, [], get_or, sym, ap, subst, arith, ◌∙◌}
 use Rattle.df_lists.specs.Membership.{In}
+use Rattle.df_lists.proofs.ListPlaces.{In-get_or}
 use Rattle.df_lang.specs.Problems.{point_count}
-use Rattle.df_maps.proofs.SetLists.{In-get_or}
 use Rattle.df_kramer_mesner.specs.OrbitSystems.{orbits_of, orbit_at, all_blocks}
 use Rattle.df_matrix.specs.MatrixParts.{AreOrbits}
 use Rattle.df_matrix.proofs.OrbitParts.{shown, blocks_long, blocks_listed, orbit_member}

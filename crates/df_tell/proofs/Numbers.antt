@@ -1,7 +1,0 @@
--- How long the text of a number is.
-use Rattle.std.proofs.Common.{ℕ, ◌^◌, ◌<◌, ◌≤◌, length, arith}
-use Rattle.std.specs.Fmt.{decimal}
-use Rattle.std.proofs.lemmas.Fmt.{length-decimal-le}
-
-pub number_is_short : (n : ℕ) → n < 2 ^ 64 → length (decimal n) ≤ 20
-number_is_short n h = length-decimal-le 20 n (omega arith) (omega arith) h
