@@ -19,7 +19,7 @@ use Rattle.df_maps.specs.Laws.{AreGroup}
 use Rattle.df_orbits.specs.OrbitClasses.{earliest_of}
 use Rattle.df_lang.specs.Problems.{Stated, point_count}
 use Rattle.df_kramer_mesner.specs.OrbitSystems.{maps_of_problem, alike}
-use Rattle.df_kramer_mesner.proofs.HeldPairs.{count-filter}
+use Rattle.df_lists.proofs.MemberLaws.{count-filter}
 use Rattle.df_kramer_mesner.proofs.ProblemMaps.{blocks_group}
 
 count_or : {X : Type 0} (t u : X → Bool) (xs : List X) → count (λ x. t x || u x) xs ≤ count t xs + count u xs

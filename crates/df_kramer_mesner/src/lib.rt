@@ -1,5 +1,5 @@
 //! The orbit system of a problem, by Kramer and Mesner: its rows, orbits, entries and columns, and what is true of them.
-//! It stands on df_lang, for problems and targets, on df_orbits, for classes, and on df_system, for cells; it has no code that runs: the contract of each public function is a law, and its body is empty but for the laws below that it follows from.
+//! It stands on df_lang, for problems and targets, on df_orbits, for orbits, and on df_system, for cells; it has no code that runs: the contract of each public function is a law, and its body is empty but for the laws below that it follows from.
 //! The crates above cite the words of specs/OrbitSystems.antt, which are stated by lists, counts and single maps alone.
 //! Laws for the rooms above: proofs/EntryQuotients, proofs/KeptOrbits, proofs/OrbitBlocks, proofs/OrbitNumbers,
 //! proofs/ProblemMaps, proofs/RowLists.
@@ -11,8 +11,8 @@ use df_maps::{maps_are_groups, maps_are_made};
 use df_orbits::{places_are_found, representatives_tell_orbits};
 use df_subsets::{blocks_are_ordered, blocks_are_sets, candidates_are_all, subsets_are_all};
 
-/// The entry of a row of pairs and an orbit, times the number of pairs in the row's class, is the number of blocks in the orbit's class times the number of pairs of one of its blocks that lie in the row's class.
-/// The entry is the same for each pair of the row's class.
+/// The entry of a row of pairs and an orbit, times the number of pairs in the row's orbit, is the number of blocks in the orbit times the number of pairs of one of its blocks that lie in the row's orbit.
+/// The entry is the same for each pair of the row's orbit.
 pub fn entries_are_quotients()
     ensures { EntriesAreQuotients }
 {
@@ -42,12 +42,12 @@ pub fn rows_are_pairs_and_needed()
     ensures { RowsArePairsAndNeeded }
 {}
 
-/// An orbit is kept exactly where no entry is above its row's target and no forbidden block is in its class.
+/// An orbit is kept exactly where no entry is above its row's target and none of its blocks is forbidden.
 pub fn orbits_are_kept()
     ensures { OrbitsAreKept }
 {}
 
-/// How many pairs and blocks there are, what points they have, and that no entry and no class is greater than the number of all blocks.
+/// How many pairs and blocks there are, what points they have, and that no entry and no orbit is greater than the number of all blocks.
 pub fn numbers_are_few()
     ensures { NumbersAreFew }
 {

@@ -5,13 +5,13 @@ use Rattle.df_lang.specs.declared.fault.SourceFault.TheVariants as faults
 use Rattle.df_lang.specs.declared.fault.Needed.{Needed}
 use Rattle.df_lang.specs.declared.fault.Needed.TheVariants as needed
 
--- the word of a statement that each source needs
+-- the keyword of a statement that each source needs
 abbrev pub needed_text : Needed → List ℕ
 needed_text needed.Group = codes "group"
 needed_text needed.Size = codes "k"
 needed_text needed.Lambda = codes "lambda"
 
--- a fault: its name, and the word that is missing
+-- a fault: its name, and the keyword of what is missing
 abbrev pub fault_text : SourceFault → List ℕ
 fault_text faults.BadWord = codes "BadWord"
 fault_text faults.BadNumber = codes "BadNumber"

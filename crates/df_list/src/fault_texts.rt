@@ -6,7 +6,7 @@ ghost use Rattle.df_list.specs.FaultTexts.{fault_text, needed_text};
 use df_io::{LineBuf, put_text};
 use df_lang::{Needed, SourceFault};
 
-/// Appends the name of a source's fault, with the word of the statement that is missing where one is. The buffer has
+/// Appends the name of a source's fault, with the keyword of the statement that is missing where one is. The buffer has
 /// room for it: the longest text has 14 bytes.
 pub fn put_source_fault(buf: &mut LineBuf, fault: &SourceFault)
     requires { array_vec_len buf.old + length (fault_text fault.now) ≤ 1024 }
@@ -33,7 +33,7 @@ pub fn put_source_fault(buf: &mut LineBuf, fault: &SourceFault)
     }
 }
 
-// Appends what is told of a statement that is missing.
+// Appends the text of a statement that is missing.
 fn put_missing(buf: &mut LineBuf, needed: Needed)
     requires { array_vec_len buf.old + length (fault_text (SourceFault.Missing needed)) ≤ 1024 }
     ensures text { buf.new.items ≡ buf.old.items ++ fault_text (SourceFault.Missing needed) }

@@ -33,7 +33,7 @@ pub fn row_text_is_short(problem: &Problem, row: Row, found: u64, stated: u64)
     row_name_is_short(problem, row);
 }
 
-// What a row counts is told in at most 63 bytes.
+// The name of a row has at most 63 bytes.
 fn row_name_is_short(problem: &Problem, row: Row)
     requires { IsRow problem.now row }
     ensures { length (row_name problem.now row) ≤ 63 }

@@ -1,5 +1,5 @@
 -- What an orbit matrix keeps beside its problem, and how it is found.
-use Rattle.std.specs.Prelude.{◌≡◌, ℕ, zero, suc, ◌+◌, ◌*◌, ◌/◌, ◌==◌, ◌<◌, ◌≤◌, Bool, List, [], ◌∷◌, ◌++◌, map, length, filter, All, Some, slice_get, slice_index_or}
+use Rattle.std.specs.Prelude.{◌≡◌, ℕ, zero, suc, ◌*◌, ◌/◌, ◌==◌, ◌<◌, ◌≤◌, Bool, List, [], ◌∷◌, ◌++◌, map, length, filter, All, Some, slice_get, slice_index_or}
 use Rattle.std.specs.List.{range_with_len}
 use Rattle.df_lists.specs.Membership.{count}
 use Rattle.df_lang.specs.Problems.{Stated, IsStated}

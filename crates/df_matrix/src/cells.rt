@@ -1,4 +1,7 @@
-// The entries of an orbit in the rows of pairs.
+// The entries of an orbit in the rows of pairs. Each pair of a row lies in the same number of blocks of the orbit, so the entry
+// times the pairs of the row is the blocks of the orbit times the pairs of one block that lie in the row. These pairs are found
+// from the representative alone: the rows of its at most 120 pairs are looked up and sorted, and each row is tallied. So an
+// orbit takes work by its pairs, and never by all rows or all of its blocks.
 ghost use Rattle.std.specs.Prelude.{◌≡◌, ◌==◌, ◌+◌, ◌<◌, ◌≤◌, ℕ, List, true, false, length, map, All, Some, nat_le, slice_get, slice_index};
 ghost use Rattle.std.specs.List.{list_all};
 ghost use Rattle.std.specs.List.Sorted.{IsNonDecreasing};

@@ -19,5 +19,5 @@ pub use designs::matrix_tells_designs;
 pub use matrix::{MOST_COLUMNS, MOST_ENTRIES, MatrixError, OrbitMatrix, build};
 pub use orbits::ProblemOrbits;
 
-/// Want of memory.
+/// Out of memory.
 pub type OutOfMemory = std::alloc::AllocError;

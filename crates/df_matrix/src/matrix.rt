@@ -34,7 +34,7 @@ pub enum MatrixError {
     TooManyColumns { found: u64 },
     /// Version 1: there are more than `MOST_ENTRIES` rows times columns.
     TooLarge { rows: u64, columns: u64 },
-    /// Memory was wanting.
+    /// Out of memory.
     OutOfMemory,
     /// Version 2: there are more than `MOST_SUMMED` blocks of the sizes together.
     TooManySummed { points: u8, sum: u128 },
@@ -172,7 +172,7 @@ impl OrbitMatrix {
     }
 }
 
-/// The orbit matrix of a problem. The errors come in the order of `MatrixError`'s comment, each exactly where its number is above the limit; want of memory may come before a limit on columns or entries is judged.
+/// The orbit matrix of a problem. The errors come in the order of `MatrixError`'s comment, each exactly where its number is above the limit; out of memory may come before a limit on columns or entries is judged.
 pub fn build(alloc: Global, problem: &Problem) -> Result<OrbitMatrix, MatrixError>
     ensures value { IfOk result (λ matrix. matrix ≡ problem.now) }
     ensures within { IsOk result → limit_passed problem.now ≡ None }

@@ -1,6 +1,6 @@
-//! The classes of pairs and of blocks under a group of maps x -> mx + h, numbered by their earliest members, with their sizes.
-//! It stands on df_maps and df_subsets, and finds a class by marks at the places of the images of its earliest member, one bit a block.
-//! The crates above see an `Orbits` as the list of earliest members and sizes, and cite the words of specs/OrbitClasses.antt, which are stated by single maps alone.
+//! The orbits of pairs and of blocks under a group of maps x -> mx + h, numbered by their representatives, with their sizes.
+//! It stands on df_maps and df_subsets, and finds an orbit by marks at the places of the images of its representative, one bit a block.
+//! The crates above see an `Orbits` as the list of representatives and sizes, and cite the words of specs/OrbitClasses.antt, which are stated by single maps alone.
 //! Laws for the rooms above: proofs/ListedOrbits.
 #![tactic(auto)]
 
@@ -23,5 +23,5 @@ pub use orbits::{
     pair_orbits, sized_orbits, subset_orbits,
 };
 
-/// Want of memory.
+/// Out of memory.
 pub type OutOfMemory = std::alloc::AllocError;

@@ -1,4 +1,4 @@
-// The numbers of the classes of pairs of points, in a table.
+// The numbers of the orbits of pairs of points, in a table.
 ghost use Rattle.std.specs.Prelude.{◌≡◌, ◌<◌, ◌≤◌, ◌*◌, ◌+◌, ◌==◌, ◌∷◌, [], ℕ, List, length, slice_get, slice_index, Some, IfOk, if◌then◌else◌};
 ghost use Rattle.df_subsets.specs.Blocks.{IsBlock};
 ghost use Rattle.df_maps.specs.FullMaps.{point_count};
@@ -13,7 +13,7 @@ use df_subsets::{Block, Point};
 use std::alloc::Global;
 use std::marker::Model;
 
-/// The numbers of the classes of all pairs of points under a group of maps, each by one look, and seen as these maps.
+/// The numbers of the orbits of all pairs of points under a group of maps, each by one look, and seen as these maps.
 #[derive(Drop)]
 pub struct PairNumbers {
     maps: Maps,
@@ -52,7 +52,7 @@ impl PairNumbers {
         })
     }
 
-    /// The number of the class of the pair of p and q among the classes of pairs, from 0. The points lie below the number of points, p before q.
+    /// The number of the orbit of the pair of p and q among the orbits of pairs, from 0. The points lie below the number of points, p before q.
     pub fn number_of(&self, p: Point, q: Point) -> usize
         requires order { p < q }
         requires points { q < point_count self.now }

@@ -1,4 +1,8 @@
-// The classes of blocks under a group of maps, by their earliest members.
+// The orbits of blocks under a group of maps, by their representatives: the blocks that no map carries to an earlier one.
+// They are found by going through all blocks of a size in order, with a mark for each block that an earlier one was carried to.
+// A block without a mark is the first of its orbit; its images are marked, and those that are the block itself are counted,
+// since the number of maps divided by that is the size of the orbit. So the maps are gone through once for each orbit, and not
+// once for each block, at the cost of one bit a block.
 ghost use Rattle.std.specs.Prelude.{◌≡◌, ◌==◌, ◌||◌, ◌-◌, ◌*◌, ◌<◌, ◌≤◌, ◌∷◌, ◌++◌, [], ℕ, List, length, map, slice_get, slice_index_or, Some, Err, All, IfOk, IfErr, sum_by};
 ghost use Rattle.std.specs.List.Sorted.{IsStrictlyIncreasing};
 ghost use Rattle.df_lists.specs.Membership.{In, count};
@@ -30,18 +34,18 @@ struct Orbit {
     size: u32,
 }
 
-/// The classes of blocks under a group of maps, in the order of their earliest members.
+/// The orbits of blocks under a group of maps, in the order of their representatives.
 #[derive(Drop)]
 pub struct Orbits {
     found: Vec<Orbit>,
 }
 
-/// Why the classes of blocks weren't listed.
+/// Why the orbits of blocks weren't listed.
 #[derive(Clone, Copy, Debug, PartialEq, Eq)]
 pub enum OrbitError {
     /// There are more than `MOST_SUBSETS` blocks of one size.
     TooManySubsets { points: u8, size: u8 },
-    /// Memory was wanting.
+    /// Out of memory.
     OutOfMemory,
     /// There are more than `MOST_SUMMED` blocks of the sizes together.
     TooManySummed { points: u8, sum: u128 },
@@ -56,14 +60,14 @@ impl Model for Orbits {
 }
 
 impl Orbits {
-    /// How many classes there are.
+    /// How many orbits there are.
     pub fn len(&self) -> usize
         ensures { result ≡ length self.now }
     {
         self.found.len()
     }
 
-    /// The earliest member of class number `i`, from 0 and below the number of classes.
+    /// The representative of orbit number `i`, from 0 and below the number of orbits.
     pub fn rep(&self, i: usize) -> Block
         requires { i < length self.now }
         ensures { result ≡ representative_at self.now i }
@@ -71,7 +75,7 @@ impl Orbits {
         self.found[i].block
     }
 
-    /// How many blocks class number `i` has, from 0 and below the number of classes.
+    /// How many blocks orbit number `i` has, from 0 and below the number of orbits.
     pub fn size(&self, i: usize) -> u32
         requires { i < length self.now }
         ensures { result ≡ size_at self.now i }
@@ -79,8 +83,8 @@ impl Orbits {
         self.found[i].size
     }
 
-    /// The number of the class that a block is in, from 0.
-    /// These are the maps that the classes were made with, and the block has one of the sizes and lies below the number of points.
+    /// The number of the orbit that a block is in, from 0.
+    /// These are the maps that the orbits were made with, and the block has one of the sizes and lies below the number of points.
     pub fn number_of(&self, maps: &Maps, block: &Block) -> usize
         requires making { (sizes : List ℕ) × (self.now ≡ block_classes maps.now sizes) × In sizes (length block.now) }
         requires block { IsBlock (point_count maps.now) block.now }
@@ -112,7 +116,7 @@ impl From<AllocError> for OrbitError {
     }
 }
 
-/// The classes of pairs of points.
+/// The orbits of pairs of points.
 pub fn pair_orbits(alloc: Global, maps: &Maps) -> Result<Orbits, OutOfMemory>
     ensures pairs { IfOk result (λ orbits. orbits ≡ pair_classes maps.now) }
     ensures sized { IfOk result (λ orbits. orbits ≡ block_classes maps.now (2 ∷ [])) }
@@ -132,7 +136,7 @@ pub fn orbits_of_pairs(alloc: Global, images: &Images) -> Result<Orbits, OutOfMe
     Ok(Orbits { found })
 }
 
-/// The classes of the blocks of `size` points, from 2 to the number of points.
+/// The orbits of the blocks of `size` points, from 2 to the number of points.
 /// `TooManySubsets` exactly where there are more than `MOST_SUBSETS` such blocks.
 pub fn subset_orbits(alloc: Global, maps: &Maps, size: u8) -> Result<Orbits, OrbitError>
     requires some { 2 ≤ size }
@@ -152,7 +156,7 @@ pub fn subset_orbits(alloc: Global, maps: &Maps, size: u8) -> Result<Orbits, Orb
     Ok(Orbits { found })
 }
 
-/// The classes of all blocks that have one of the sizes, numbered together. The sizes increase strictly from 2 to the number of points, and there is one.
+/// The orbits of all blocks that have one of the sizes, numbered together. The sizes increase strictly from 2 to the number of points, and there is one.
 /// `TooManySummed` exactly where there are more than `MOST_SUMMED` such blocks.
 pub fn sized_orbits(alloc: Global, maps: &Maps, sizes: &[u8]) -> Result<Orbits, OrbitError>
     requires some { 0 < length sizes.now }
@@ -206,7 +210,7 @@ pub fn count_blocks(points: u8, sizes: &[u8]) -> u128
     sum
 }
 
-// Appends the classes of the blocks of one size.
+// Appends the orbits of the blocks of one size.
 fn find(alloc: Global, images: &Images, size: u8, found: &mut Vec<Orbit>) -> Result<(), OutOfMemory>
     requires some { 1 ≤ size }
     requires within { size ≤ point_count images.now }
@@ -249,7 +253,7 @@ fn stepped(points: u8, block: &Block, place: usize) -> Block
     }
 }
 
-// Marks the places of a block's images, and tells how many different images it has.
+// Marks the places of a block's images, and answers how many different images it has.
 fn mark(marks: &mut Marks, images: &Images, places: &Places, block: &Block) -> u32
     requires block { IsBlock (point_count images.now) block.now }
     requires places { places.now ≡ (point_count images.now, length block.now) }

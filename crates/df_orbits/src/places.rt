@@ -1,4 +1,6 @@
-// The places of the blocks of one size, by a table of binomials.
+// The places of the blocks of one size, by a table of binomials. The blocks after a given one are those that agree with it
+// before one of its points and have a later point in that place; for each point and place the table has how many those are. So
+// the place of a block is found by one look for each of its points, where a rank by its definition takes a sum over all points.
 ghost use Rattle.std.specs.Prelude.{◌≡◌, ◌<◌, ◌≤◌, ◌-◌, ◌+◌, length, slice_get, Some, IfOk};
 ghost use Rattle.df_subsets.specs.Blocks.{IsBlock};
 ghost use Rattle.df_subsets.specs.Subsets.{subsets, binomial as binomial_of, rank as rank_of};

@@ -139,11 +139,37 @@ fn push_longer(
     }
 }
 
-/// Two points, and in how many blocks they are to lie.
-#[derive(Clone, Copy)]
+/// Two points: the places of the blocks that hold both, and in how many blocks they are to lie.
+#[derive(Drop)]
 struct Pair {
-    points: u32,
+    holders: Vec<usize>,
     target: u32,
+}
+
+impl Pair {
+    // How many members of a family hold both points.
+    fn cover(&self, family: &[bool]) -> u32 {
+        let mut cover: u32 = 0;
+        for place in &self.holders {
+            if family.get(*place).copied().unwrap_or(false) {
+                cover = cover.wrapping_add(1);
+            }
+        }
+        cover
+    }
+
+    // Whether they can still be covered as often as they are to be.
+    fn is_open(&self, decided: &[Option<bool>]) -> bool {
+        let (mut taken, mut open) = (0u32, 0u32);
+        for place in &self.holders {
+            match decided.get(*place) {
+                Some(Some(true)) => taken = taken.wrapping_add(1),
+                Some(None) => open = open.wrapping_add(1),
+                _ => {}
+            }
+        }
+        taken <= self.target && self.target <= taken.wrapping_add(open)
+    }
 }
 
 /// A problem: its blocks, and what its designs are to keep.
@@ -165,22 +191,11 @@ impl PlainProblem {
         push_longer(rt, &problem.sizes, 0, 0, points.count, &mut blocks);
         PlainProblem {
             images: images_of(rt, alloc, problem, &points, &blocks),
-            pairs: pairs_of(rt, alloc, problem, &points),
+            pairs: pairs_of(rt, alloc, problem, &points, &blocks),
             required: sets_of(rt, alloc, &problem.required),
             forbidden: sets_of(rt, alloc, &problem.forbidden),
             blocks,
         }
-    }
-
-    // How many members hold both points of a pair.
-    fn cover(&self, family: &[bool], pair: Pair) -> u32 {
-        let mut cover: u32 = 0;
-        for (block, member) in self.blocks.iter().zip(family.iter()) {
-            if *member && *block & pair.points == pair.points {
-                cover = cover.wrapping_add(1);
-            }
-        }
-        cover
     }
 
     // Whether the image of each member under each prescribed map is a member.
@@ -208,7 +223,7 @@ impl PlainProblem {
     pub(crate) fn is_design(&self, family: &[bool]) -> bool {
         self.pairs
             .iter()
-            .all(|pair| self.cover(family, *pair) == pair.target)
+            .all(|pair| pair.cover(family) == pair.target)
             && self.is_invariant(family)
             && self.required.iter().all(|block| self.has(family, *block))
             && !self.forbidden.iter().any(|block| self.has(family, *block))
@@ -253,27 +268,9 @@ impl PlainProblem {
         orbits
     }
 
-    // How many members hold both points of a pair, and how many blocks that aren't decided.
-    fn covers(&self, decided: &[Option<bool>], pair: Pair) -> (u32, u32) {
-        let (mut taken, mut open) = (0u32, 0u32);
-        for (block, member) in self.blocks.iter().zip(decided.iter()) {
-            if *block & pair.points == pair.points {
-                match member {
-                    Some(true) => taken = taken.wrapping_add(1),
-                    Some(false) => {}
-                    None => open = open.wrapping_add(1),
-                }
-            }
-        }
-        (taken, open)
-    }
-
     // Whether the pairs can still be covered as often as they are to be.
     fn is_open(&self, decided: &[Option<bool>]) -> bool {
-        self.pairs.iter().all(|pair| {
-            let (taken, open) = self.covers(decided, *pair);
-            taken <= pair.target && pair.target <= taken.wrapping_add(open)
-        })
+        self.pairs.iter().all(|pair| pair.is_open(decided))
     }
 
     // Appends the designs among the unions of orbits that have these blocks decided: of the first
@@ -373,14 +370,31 @@ fn sets_of(rt: &impl Abort, alloc: Global, blocks: &[Block]) -> Vec<u32> {
     sets
 }
 
+// The places of the blocks that hold these points.
+fn holders_of(rt: &impl Abort, alloc: Global, blocks: &[u32], points: u32) -> Vec<usize> {
+    let mut holders = Vec::new(alloc);
+    for (place, block) in blocks.iter().enumerate() {
+        if *block & points == points {
+            holders.push(place).expect(rt, "memory");
+        }
+    }
+    holders
+}
+
 // Each two points with their target.
-fn pairs_of(rt: &impl Abort, alloc: Global, problem: &Problem, points: &PlainPoints) -> Vec<Pair> {
+fn pairs_of(
+    rt: &impl Abort,
+    alloc: Global,
+    problem: &Problem,
+    points: &PlainPoints,
+    blocks: &[u32],
+) -> Vec<Pair> {
     let mut pairs = Vec::new(alloc);
     for q in 0..points.count {
         for p in 0..q {
+            let holders = holders_of(rt, alloc, blocks, single(p) | single(q));
             let target = points.target(rt, problem, p, q);
-            let points = single(p) | single(q);
-            pairs.push(Pair { points, target }).expect(rt, "memory");
+            pairs.push(Pair { holders, target }).expect(rt, "memory");
         }
     }
     pairs

@@ -1,4 +1,4 @@
-use Rattle.std.proofs.Common.{◌≡◌, ℕ, ◌++◌, ◌∷◌, [], List, length, get_or, take, map, sym, ap, ap₂, arith, ◌∙◌}
+use Rattle.std.proofs.Common.{ℕ, ◌++◌, ◌∷◌, [], List, length, sym, ap, ap₂, arith, ◌∙◌}
 use Rattle.std.proofs.lemmas.List.{map_more}
 use Rattle.df_walk.specs.declared.Cell.{Cell}
 use Rattle.df_system.specs.Storage.{cell_count}

@@ -1,4 +1,4 @@
-use Rattle.std.proofs.Common.{[], length, sym, ap, subst, ◌∙◌}
+use Rattle.std.proofs.Common.{length, sym, ap, subst, ◌∙◌}
 use Rattle.df_walk.specs.Systems.{AreCells, entry_of}
 use Rattle.df_system.proofs.PositiveCells.{positive_cells_are}
 use Rattle.df_kramer_mesner.specs.OrbitSystems.{targets_of, entries_of, orbit_at}

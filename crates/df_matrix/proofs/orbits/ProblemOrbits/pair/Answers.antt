@@ -1,4 +1,4 @@
-use Rattle.std.proofs.Common.{◌≡◌, ◌<◌, [], ◌∷◌, length, sym, ap, ap₂, arith, ◌∙◌, slice_index}
+use Rattle.std.proofs.Common.{◌≡◌, [], ◌∷◌, length, sym, ap, ap₂, arith, ◌∙◌, slice_index}
 use Rattle.df_lang.specs.Problems.{point_count}
 use Rattle.df_kramer_mesner.specs.Laws.{IsPair}
 use Rattle.df_matrix.specs.MatrixParts.{AreOrbits}
