@@ -145,10 +145,6 @@ BranchesMoveWanted = (s : System) (ds : Decisions) (column : ℕ) (trail : List 
 abbrev pub WeightedSumsAreBounded : Type 0
 WeightedSumsAreBounded = (s : System) (ds : Decisions) (ws : List CutRow) (rows heaviest columns most highest : ℕ) → length ws ≤ rows → AllByRecursion (IsWeighted s heaviest) ws → IsBounded s columns most highest → SumsWithin s ds ws (rows * (heaviest * (highest + most * columns))) (rows * (heaviest * most)) (columns * (rows * (heaviest * most)))
 
--- in the limits they are far below 2 ^ 63
-abbrev pub WeightedSumsFit : Type 0
-WeightedSumsFit = (s : System) (ds : Decisions) (ws : List CutRow) → length ws ≤ 16 → AllByRecursion (IsWeighted s 1000) ws → IsBounded s 65536 8000000 2000000 → SumsWithin s ds ws 9000000000000000 128000000000 9000000000000000
-
 -- closing a leaf: the last branch whose no is still to come gets it, and those after it are undone
 pub record LeavesReopen (ds : Decisions) (trail : List Standing) : Type 0 where
   pub waiting_is : waiting ds trail ≡ wanted_of (reopened ds trail)
