@@ -3,7 +3,7 @@ ghost use Rattle.std.specs.Prelude.{◌≡◌, ◌≤◌, ◌<◌, length};
 ghost use Rattle.df_subsets.specs.Blocks.{IsBlock};
 ghost use Rattle.df_maps.specs.FullMaps.{point_count};
 
-use crate::{Images, PairNumbers, orbits_of_pairs, subset_orbits};
+use crate::{Images, PairNumbers, orbits_of_pairs, pair_orbits, subset_orbits};
 use df_group::{Elem, Shape, Subgroup};
 use df_maps::Maps;
 use df_subsets::{Block, Point, binomial, unrank};
@@ -181,9 +181,10 @@ fn compare(rt: &impl Abort, alloc: Global, maps: &Maps, plain: &Plain, size: u8)
 
 // The numbers of pairs are those that the list of classes tells.
 fn compare_pairs(rt: &impl Abort, alloc: Global, maps: &Maps) {
+    let pairs = pair_orbits(alloc, maps).expect(rt, "ample memory");
     let images = Images::new(alloc, maps).expect(rt, "ample memory");
-    let pairs = orbits_of_pairs(alloc, &images).expect(rt, "ample memory");
-    let numbers = PairNumbers::new(alloc, &images, &pairs).expect(rt, "ample memory");
+    let listed = orbits_of_pairs(alloc, &images).expect(rt, "ample memory");
+    let numbers = PairNumbers::new(alloc, &images, &listed).expect(rt, "ample memory");
     assert!(rt; 2 <= maps.points());
     for place in 0..binomial(maps.points(), 2) {
         let block = placed(rt, maps, 2, place);
