@@ -5,11 +5,11 @@ use Rattle.df_lists.specs.Membership.{In}
 use Rattle.df_lists.specs.NumberSets.{has_member, set_of, IsSet}
 use Rattle.df_lists.proofs.MemberLaws.{In-map, In-map_gives, In-filter, In-filter_gives}
 use Rattle.df_lists.proofs.ListTotals.{count_agree}
-use Rattle.df_acting.specs.Classes.{IsMapGroup, IsSpread}
-use Rattle.df_acting.specs.Images.{image, holds}
+use Rattle.df_acting.specs.Orbits.{IsMapGroup, IsSpread}
+use Rattle.df_acting.specs.Images.{image, contains}
 use Rattle.df_lists.proofs.TestLaws.{same_tests, all_from, all_gives, filter_agree, map_agree, map_fixed, has_from, has_gives, any_map}
-use Rattle.df_acting.proofs.ClassLaws.{permutes}
-use Rattle.df_lists.proofs.SetLaws.{In-points, In-points_gives, filter_is_set, In-set, sets_agree, range_once, numbers_equal}
+use Rattle.df_acting.proofs.OrbitLaws.{permutes}
+use Rattle.df_lists.proofs.SetLaws.{In-points, In-points_gives, filter_is_set, set_picked, In-set, range_once, numbers_equal}
 
 -- the image under one function
 abbrev pub image_by : ℕ → (ℕ → ℕ) → List ℕ → List ℕ
@@ -25,7 +25,7 @@ pub image_by_agree : (v : ℕ) (f g : ℕ → ℕ) (b : List ℕ) → ((p : ℕ)
 image_by_agree v f g b h r = ap (set_of v) (map_agree f g b (λ p i. h p (In-set v b p r i)))
 
 pub image_by_same : (v : ℕ) (f : ℕ → ℕ) (b : List ℕ) → ((p : ℕ) → p < v → f p ≡ p) → IsSet v b → image_by v f b ≡ b
-image_by_same v f b h r = ap (set_of v) (map_fixed f b (λ p i. h p (In-set v b p r i))) ∙ sym r
+image_by_same v f b h r = ap (set_of v) (map_fixed f b (λ p i. h p (In-set v b p r i))) ∙ sym (set_picked v b r)
 
 -- the image of an image
 pub image_by_twice : (v : ℕ) (f g : ℕ → ℕ) (b : List ℕ) → ((p : ℕ) → p < v → g p < v) → IsSet v b → image_by v (λ p. f (g p)) b ≡ image_by v f (image_by v g b)
@@ -83,7 +83,7 @@ module _ {M : Type 0} (act : M → ℕ → ℕ) (v : ℕ) (maps : List M) (G : I
       let h = G.back g i in
       count_agree (has_member (map (act g) b)) (λ q. has_member b (act h.0 q)) (range_with_len 0 v) (λ q j. turned q (In-points_gives v q j))
       ∙ sym (permutes eqb act (λ p. p < v) maps numbers_equal G (range_with_len 0 v) points_spread (has_member b) h.0 h.1)
-      ∙ ap length (sym r)
+      ∙ ap length (sym (set_picked v b r))
     where
       back : (h : M) × In maps h × ((p : ℕ) → p < v → act h (act g p) ≡ p) × ((p : ℕ) → p < v → act g (act h p) ≡ p)
       back = G.back g i
@@ -94,9 +94,9 @@ module _ {M : Type 0} (act : M → ℕ → ℕ) (v : ℕ) (maps : List M) (G : I
           (λ h. let p = In-map_gives (act g) b q (has_gives (map (act g) b) q h) in has_from b (act back.0 q) (subst (In b) (sym (back.2 p.0 (In-set v b p.0 r p.1)) ∙ ap (act back.0) p.2) p.1))
           (λ h. has_from (map (act g) b) q (subst (In (map (act g) b)) (back.3 q k) (In-map (act g) b (act back.0 q) (has_gives b (act back.0 q) h))))
 
-  pub holds_kept : (g : M) → In maps g → (b c : List ℕ) → IsSet v b → IsSet v c → holds (image act v g b) (image act v g c) ≡ holds b c
+  pub holds_kept : (g : M) → In maps g → (b c : List ℕ) → IsSet v b → IsSet v c → contains (image act v g b) (image act v g c) ≡ contains b c
   holds_kept g i b c r s =
-      same_tests (holds (image act v g b) (image act v g c)) (holds b c)
+      same_tests (contains (image act v g b) (image act v g c)) (contains b c)
       (λ h. all_from (has_member b) c (λ p j. has_from b p (down p (In-set v c p s j) (In-image_gives g b (act g p) (has_gives (image act v g b) (act g p) (all_gives (has_member (image act v g b)) (image act v g c) h (act g p) (In-image g c p i s j)))))))
       (λ h. all_from (has_member (image act v g b)) (image act v g c) (λ q j. let p = In-image_gives g c q j in has_from (image act v g b) q (subst (In (image act v g b)) p.2 (In-image g b p.0 i r (has_gives b p.0 (all_gives (has_member b) c h p.0 p.1))))))
     where
@@ -105,4 +105,4 @@ module _ {M : Type 0} (act : M → ℕ → ℕ) (v : ℕ) (maps : List M) (G : I
 
 -- a set with the points' images and no other points is the image
 pub image_done : (v : ℕ) (f : ℕ → ℕ) (b c : List ℕ) → IsSet v c → ((q : ℕ) → has_member c q ≡ list_any (λ p. eqb (f p) q) b) → c ≡ image_by v f b
-image_done v f b c is has = is ∙ filter_agree (has_member c) (has_member (map f b)) (range_with_len 0 v) (λ q i. has q ∙ sym (any_map (λ x. eqb x q) f b))
+image_done v f b c is has = set_picked v c is ∙ filter_agree (has_member c) (has_member (map f b)) (range_with_len 0 v) (λ q i. has q ∙ sym (any_map (λ x. eqb x q) f b))

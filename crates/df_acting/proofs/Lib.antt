@@ -1,5 +1,5 @@
-pub mod ClassLaws
-pub mod EarliestLaws
+pub mod OrbitLaws
+pub mod RepresentativeLaws
 pub mod ImageLaws
 pub mod OntoLists
 pub mod StabilizerLaws

@@ -9,8 +9,8 @@ abbrev pub image : {M : Type 0} → (M → ℕ → ℕ) → ℕ → M → List �
 image act v g b = set_of v (map (act g) b)
 
 -- all points of c are points of b
-abbrev pub holds : List ℕ → List ℕ → Bool
-holds b c = list_all (has_member b) c
+abbrev pub contains : List ℕ → List ℕ → Bool
+contains b c = list_all (has_member b) c
 
 -- each image of a block of the list is in the list
 abbrev pub IsInvariant : {M : Type 0} → (M → ℕ → ℕ) → ℕ → List M → List (List ℕ) → Type 0

@@ -1,4 +1,4 @@
-pub mod Classes
-pub mod Earliest
+pub mod Orbits
+pub mod Representatives
 pub mod Images
 pub mod Laws

@@ -2,15 +2,16 @@
 use Rattle.std.proofs.Common.{◌≡◌, ℕ, suc, ◌<◌, List, [], ◌∷◌, refl, sym, ap, ◌∙◌, subst, arith}
 use Rattle.std.specs.List.{All}
 use Rattle.df_lists.specs.NumberSets.{IsSet}
-use Rattle.df_lists.proofs.CountLaws.{cb, sb, cb_is, sb_is, cb_flat_map}
+use Rattle.df_lists.proofs.CountLaws.{list_count, list_count_is, list_total_is, list_count_flat_map}
+use Rattle.df_lists.proofs.ListTotals.{list_total}
 use Rattle.df_group.specs.Elements.{order_of, group_of, IsGroup, IsShape}
 use Rattle.df_group.specs.Subgroups.{IsSubgroup}
 use Rattle.df_group.specs.ClosedSets.{IsClosed}
 use Rattle.df_group.proofs.ElementLaws.{is_group}
 use Rattle.df_group.proofs.SubgroupLaws.{are_subgroups}
-use Rattle.df_lang.specs.declared.parts.Member.{Member}
+use Rattle.df_lang.specs.declared.pieces.Member.{Member}
 use Rattle.df_lang.specs.Problems.{Stated, IsBlock, point_count}
-use Rattle.df_lang.specs.Balance.{holds, cover}
+use Rattle.df_lang.specs.Balance.{holds_both, cover}
 use Rattle.df_family.specs.Translates.{elements}
 use Rattle.df_family.specs.Developments.{translates_under, develop_under, develop}
 use Rattle.df_family.specs.Tables.{occurs, found, stated}
@@ -42,7 +43,7 @@ whole_closed s shape = closed_of s shape (elements s) (whole s shape)
 
 module _ (s : Stated) (is : IsGroup (group_of s.group)) (shifts : List ℕ) (closed : IsClosed s.group shifts) where
   members_cover : (ms : List Member) → AreSets s ms → (p q : ℕ) → p < q → q < point_count s
-      → sb (λ m. cb (λ b. holds b p q) (translates_under s shifts m)) ms ≡ sb (λ (m : Member). summand_at s shifts p q m.kind m.block) ms
+      → list_total (λ m. list_count (λ b. holds_both b p q) (translates_under s shifts m)) ms ≡ list_total (λ (m : Member). summand_at s shifts p q m.kind m.block) ms
   members_cover [] all p q h k = refl
   members_cover (m ∷ ms) all p q h k =
       let here = member_covers s is shifts closed m.block all.0 m.kind p q h k in
@@ -51,8 +52,8 @@ module _ (s : Stated) (is : IsGroup (group_of s.group)) (shifts : List ℕ) (clo
 
   cover_found : AreSets s s.family → (p q : ℕ) → p < q → q < point_count s → cover (develop_under s shifts) p q ≡ found_at s shifts p q
   cover_found all p q h k =
-      sym (cb_is (λ b. holds b p q) (develop_under s shifts)) ∙ cb_flat_map (λ b. holds b p q) (translates_under s shifts) s.family ∙ members_cover s.family all p q h k
-      ∙ sb_is (λ (m : Member). summand_at s shifts p q m.kind m.block) s.family
+      sym (list_count_is (λ b. holds_both b p q) (develop_under s shifts)) ∙ list_count_flat_map (λ b. holds_both b p q) (translates_under s shifts) s.family ∙ members_cover s.family all p q h k
+      ∙ list_total_is (λ (m : Member). summand_at s shifts p q m.kind m.block) s.family
 
 pub covers_found : CoverLaw
 covers_found s is shifts subgroup = cover_found s (is_group s.group is.shape) shifts (closed_of s is.shape shifts subgroup) (are_sets s s.family is.family)

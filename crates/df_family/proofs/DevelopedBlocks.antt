@@ -6,21 +6,21 @@ use Rattle.df_lists.specs.NumberSets.{has_member, IsSet}
 use Rattle.df_lists.specs.Totals.{total, one}
 use Rattle.df_lists.proofs.TotalLaws.{total_same, total_turn}
 use Rattle.df_lists.proofs.SetLaws.{filter_is_set}
-use Rattle.df_group.specs.Elements.{group_of, IsGroup}
+use Rattle.df_group.specs.Elements.{group_of, IsGroup, shifted}
 use Rattle.df_group.proofs.ElementLaws.{is_group}
-use Rattle.df_lang.specs.declared.parts.Member.{Member}
+use Rattle.df_lang.specs.declared.pieces.Member.{Member}
 use Rattle.df_lang.specs.Problems.{Stated, IsStated, IsBlock, IsSize, point_count}
-use Rattle.df_family.specs.Translates.{shifted, translate}
+use Rattle.df_family.specs.Translates.{translate}
 use Rattle.df_family.specs.Developments.{is_listed, translates_under, develop_under}
 use Rattle.df_family.proofs.TranslateLaws.{hit, shifted_within, there_and_back, back_and_there}
-use Rattle.df_family.proofs.ShiftLaws.{length_sb, sb_set}
+use Rattle.df_family.proofs.ShiftLaws.{length_total, list_total_set}
 use Rattle.df_family.proofs.TableRows.{All-flat_map}
 
 length_set : (n : ℕ) (set : List ℕ) → IsSet n set → length set ≡ total (λ i. one (has_member set i)) n
-length_set n set is = length_sb set ∙ sb_set n set (λ x. 1) is
+length_set n set is = length_total set ∙ list_total_set n set (λ x. 1) is
 
 translate_is_set : (s : Stated) (block : List ℕ) (g : ℕ) → IsSet (point_count s) (translate s block g)
-translate_is_set s block g = filter_is_set (has_member (map (shifted s g) block)) (point_count s)
+translate_is_set s block g = filter_is_set (has_member (map (shifted (group_of s.group) g) block)) (point_count s)
 
 module _ (s : Stated) (is : IsGroup (group_of s.group)) where
   pub translate_length : (block : List ℕ) (g : ℕ) → IsSet (point_count s) block → length (translate s block g) ≡ length block
@@ -28,8 +28,8 @@ module _ (s : Stated) (is : IsGroup (group_of s.group)) where
       let v = point_count s in
       let back = (group_of s.group).neg g in
       length_set v (translate s block g) (translate_is_set s block g)
-      ∙ total_same (λ p. one (has_member (translate s block g) p)) (λ p. one (has_member block (shifted s back p))) v (λ p h. ap one (hit s is block g p h))
-      ∙ total_turn (λ p. one (has_member block p)) v (shifted s back) (shifted s g) (record {
+      ∙ total_same (λ p. one (has_member (translate s block g) p)) (λ p. one (has_member block (shifted (group_of s.group) back p))) v (λ p h. ap one (hit s is block g p h))
+      ∙ total_turn (λ p. one (has_member block p)) v (shifted (group_of s.group) back) (shifted (group_of s.group) g) (record {
         within = λ p h. shifted_within s is back p h;
         within_back = λ p h. shifted_within s is g p h;
         returns = λ p h. back_and_there s is g p;

@@ -1,12 +1,13 @@
 -- First occurrences among the translates of a block.
-use Rattle.std.proofs.Common.{◌≡◌, ℕ, Bool, true, false, cond, not, ◌&&◌, ◌||◌, nat_lt, List, [], ◌∷◌, map, filter, bytes_eq, refl, sym, ap, ◌∙◌, inl, inr, arith, tests}
+use Rattle.std.proofs.Common.{◌≡◌, ℕ, Bool, true, false, cond, not, ◌&&◌, ◌||◌, nat_lt, List, [], ◌∷◌, map, filter, refl, sym, ap, ◌∙◌, inl, inr, arith, tests}
 use Rattle.std.specs.List.{list_any}
 use Rattle.std.proofs.lemmas.Slice.Eq.{bytes_eq-Decides}
 use Rattle.std.proofs.lemmas.Bool.Decides.{same_from_decides}
 use Rattle.df_lists.specs.Membership.{In}
 use Rattle.df_lists.specs.Orders.{IsSorted}
 use Rattle.df_lists.proofs.TestLaws.{filter_agree}
-use Rattle.df_lang.specs.declared.parts.Kind.TheVariants as kinds
+use Rattle.df_subsets.specs.Subsets.{same_list}
+use Rattle.df_lang.specs.declared.pieces.Kind.TheVariants as kinds
 use Rattle.df_lang.specs.Problems.{Stated}
 use Rattle.df_family.specs.Translates.{translate, same_translate}
 use Rattle.df_family.specs.Developments.{first_occurrences, is_listed}
@@ -58,7 +59,7 @@ module _ (s : Stated) (block : List ℕ) where
   occurrences_of [] sorted = refl
   occurrences_of (a ∷ rest) sorted =
       let f = translate s block in
-      let other : List ℕ → Bool = λ c. not (bytes_eq c (f a)) in
+      let other : List ℕ → Bool = λ c. not (same_list c (f a)) in
       let L = is_listed s (a ∷ rest) kinds.Short block in
       let M = is_listed s rest kinds.Short block in
       ap (λ l. f a ∷ filter other l) (occurrences_of rest sorted.1)

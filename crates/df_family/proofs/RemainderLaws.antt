@@ -4,12 +4,13 @@ use Rattle.std.specs.List.{range_with_len, flat_map, list_any}
 use Rattle.df_lists.specs.Membership.{In}
 use Rattle.df_lists.specs.NumberSets.{has_member, IsSet}
 use Rattle.df_lists.specs.LeastMembers.{any_below}
+use Rattle.df_lists.proofs.RisingLists.{point_below}
 use Rattle.df_lists.proofs.MemberLaws.{In-filter_gives, In-range_gives}
 use Rattle.df_group.specs.Elements.{order_of, group_of, IsGroup, minus}
 use Rattle.df_group.specs.ClosedSets.{IsClosed}
-use Rattle.df_lang.specs.declared.parts.Kind.{Kind}
-use Rattle.df_lang.specs.declared.parts.Kind.TheVariants as kinds
-use Rattle.df_lang.specs.declared.parts.Member.{Member}
+use Rattle.df_lang.specs.declared.pieces.Kind.{Kind}
+use Rattle.df_lang.specs.declared.pieces.Kind.TheVariants as kinds
+use Rattle.df_lang.specs.declared.pieces.Member.{Member}
 use Rattle.df_lang.specs.Problems.{Stated, point_count}
 use Rattle.df_family.specs.Translates.{translate, same_translate, fixes}
 use Rattle.df_family.specs.Developments.{is_listed, translates_under}
@@ -24,10 +25,7 @@ In-get_or (x ∷ xs) (suc k) d h = inr (In-get_or xs k d (omega arith))
 
 -- the members of a set of numbers below v
 pub set_below : (v : ℕ) (set : List ℕ) → IsSet v set → All (λ p. p < v) set
-set_below v set is k d h =
-    let i = In-get_or (filter (has_member set) (range_with_len 0 v)) k d (omega (arith, ap length is)) in
-    let r = In-range_gives 0 v (get_or (filter (has_member set) (range_with_len 0 v)) k d) (In-filter_gives (has_member set) (range_with_len 0 v) (get_or (filter (has_member set) (range_with_len 0 v)) k d) i).0 in
-    omega (arith, r.1, ap (λ l. get_or l k d) is)
+set_below v set is k d h = point_below 0 v set k d is h
 
 -- what a test picks passes it
 pub picks_pass : (t : ℕ → Bool) (xs : List ℕ) (k d : ℕ) → k < length (filter t xs) → t (get_or (filter t xs) k d) ≡ true

@@ -3,14 +3,15 @@ use Rattle.std.proofs.Common.{◌≡◌, ℕ, ◌+◌, ◌-◌, ◌/◌, ◌<◌
 use Rattle.std.proofs.lemmas.Bool.{cases_lt}
 use Rattle.std.proofs.lemmas.List.FromFn.{length-range_with_len}
 use Rattle.df_lists.specs.NumberSets.{has_member}
-use Rattle.df_lists.proofs.CountLaws.{sb, sb_is}
+use Rattle.df_lists.proofs.CountLaws.{list_total_is}
+use Rattle.df_lists.proofs.ListTotals.{list_total}
 use Rattle.df_lists.proofs.SetLaws.{in_range}
 use Rattle.df_group.specs.Elements.{order_of, group_of, IsGroup, minus}
-use Rattle.df_lang.specs.declared.parts.Kind.{Kind}
-use Rattle.df_lang.specs.declared.parts.Kind.TheVariants as kinds
-use Rattle.df_lang.specs.declared.parts.Member.{Member}
+use Rattle.df_lang.specs.declared.pieces.Kind.{Kind}
+use Rattle.df_lang.specs.declared.pieces.Kind.TheVariants as kinds
+use Rattle.df_lang.specs.declared.pieces.Member.{Member}
 use Rattle.df_lang.specs.Problems.{Stated, point_count}
-use Rattle.df_lang.specs.Balance.{holds}
+use Rattle.df_lang.specs.Balance.{holds_both}
 use Rattle.df_family.specs.declared.table.Row.{Row}
 use Rattle.df_family.specs.declared.table.Row.TheVariants.{Diff, WithFixed, TwoFixed}
 use Rattle.df_family.specs.Translates.{elements, stabilizer}
@@ -42,7 +43,7 @@ module _ (s : Stated) (is : IsGroup (group_of s.group)) where
               | inl l ↦ rw (le-ltb q n r, lt-ltb p n l) (ap (λ x. cond (has_member block x) (length (finite_points s block)) 0) (fixed_back s q r) ∙ sym (ap (λ (l : List ℕ). cond (has_member block q) (length l) 0) here))
               | inr t ↦
                   rw (le-ltb q n r, le-ltb p n t)
-                  (ap (λ x. cond (holds block x (fixed_point s (q - n + 1))) n 0) (fixed_back s p t) ∙ ap (λ x. cond (holds block p x) n 0) (fixed_back s q r) ∙ sym (ap (λ x. cond (holds block p q) x 0) (length-range_with_len 0 n)))
+                  (ap (λ x. cond (holds_both block x (fixed_point s (q - n + 1))) n 0) (fixed_back s p t) ∙ ap (λ x. cond (holds_both block p x) n 0) (fixed_back s q r) ∙ sym (ap (λ x. cond (holds_both block p q) x 0) (length-range_with_len 0 n)))
             ]
       ]
 
@@ -50,10 +51,10 @@ module _ (s : Stated) (is : IsGroup (group_of s.group)) where
   summand_kind kinds.Base block p q h = occurs_kind block p q h
   summand_kind kinds.Short block p q h = ap (λ n. n / stabilizer s block) (occurs_kind block p q h)
 
-  found_in : (ms : List Member) (p q : ℕ) → p < q → sb (summand s (kind s p q)) ms ≡ sb (λ (m : Member). summand_at s (elements s) p q m.kind m.block) ms
+  found_in : (ms : List Member) (p q : ℕ) → p < q → list_total (summand s (kind s p q)) ms ≡ list_total (λ (m : Member). summand_at s (elements s) p q m.kind m.block) ms
   found_in [] p q h = refl
   found_in (m ∷ ms) p q h = let here = summand_kind m.kind m.block p q h in let ih = found_in ms p q h in omega arith
 
   -- a row is found as often as two points of that kind
   pub found_kind : (p q : ℕ) → p < q → found s (kind s p q) ≡ found_at s (elements s) p q
-  found_kind p q h = sym (sb_is (summand s (kind s p q)) s.family) ∙ found_in s.family p q h ∙ sb_is (λ (m : Member). summand_at s (elements s) p q m.kind m.block) s.family
+  found_kind p q h = sym (list_total_is (summand s (kind s p q)) s.family) ∙ found_in s.family p q h ∙ list_total_is (λ (m : Member). summand_at s (elements s) p q m.kind m.block) s.family

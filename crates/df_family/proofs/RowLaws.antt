@@ -7,7 +7,7 @@ use Rattle.df_lists.specs.NumberSets.{has_member}
 use Rattle.df_lists.proofs.MemberLaws.{In-append_cases, In-append_left, In-append_right, In-flat_map, In-flat_map_gives, In-map, In-map_gives, In-range, In-range_gives}
 use Rattle.df_group.specs.Elements.{order_of, group_of, IsGroup, minus}
 use Rattle.df_group.proofs.GroupLaws.{less_more, minus_zero}
-use Rattle.df_lang.specs.declared.parts.Inside.{Inside}
+use Rattle.df_lang.specs.declared.pieces.Inside.{Inside}
 use Rattle.df_lang.specs.Problems.{Stated, point_count}
 use Rattle.df_lang.specs.Targets.{subgroup_at, finite_target, target}
 use Rattle.df_family.specs.declared.table.Row.{Row}

@@ -3,30 +3,8 @@ use Rattle.std.proofs.Common.{◌≡◌, ◌≢◌, ℕ, zero, suc, ◌+◌, ◌
 use Rattle.std.specs.List.{range_with_len}
 use Rattle.std.proofs.lemmas.List.{map_more}
 use Rattle.df_lists.specs.NumberSets.{has_member, set_of, with_member}
-use Rattle.df_lists.proofs.RangeLaws.{placed, filter_more}
-
-has_last : (xs : List ℕ) (x : ℕ) → has_member (xs ++ x ∷ []) x ≡ true
-has_last [] x = rw (eq-eqb x x refl) refl
-has_last (y ∷ xs) x = ap (λ v. eqb y x || v) (has_last xs x) ∙ or_true (eqb y x)
-  where
-    or_true : (v : Bool) → (v || true) ≡ true
-    or_true true = refl
-    or_true false = refl
-
-has_other : (xs : List ℕ) (x i : ℕ) → i ≢ x → has_member (xs ++ x ∷ []) i ≡ has_member xs i
-has_other [] x i h = rw (ne_eqb x i (λ e. h (sym e))) refl
-has_other (y ∷ xs) x i h = ap (λ v. eqb y i || v) (has_other xs x i h)
-
-pub set_none : (v : ℕ) → set_of v [] ≡ []
-set_none v = nothing (range_with_len 0 v)
-  where
-    nothing : (xs : List ℕ) → filter (λ q. false) xs ≡ []
-    nothing [] = refl
-    nothing (x ∷ xs) = nothing xs
-
--- one more number
-pub set_more : (v : ℕ) (xs : List ℕ) (x : ℕ) → x < v → with_member x (set_of v xs) ≡ set_of v (xs ++ x ∷ [])
-set_more v xs x h = sym (placed (has_member xs) (has_member (xs ++ x ∷ [])) x (has_last xs x) (has_other xs x) 0 v (omega arith) (omega arith))
+use Rattle.df_lists.proofs.RangeLaws.{filter_more}
+use Rattle.df_lists.proofs.SetLaws.{set_more}
 
 pub image_more : (v : ℕ) (f : ℕ → ℕ) (xs : List ℕ) (i x : ℕ) → i < length xs → x ≡ get_or xs i x → f x < v → with_member (f x) (set_of v (map f (take i xs))) ≡ set_of v (map f (take (i + 1) xs))
 image_more v f xs i x h is below = set_more v (map f (take i xs)) (f x) below ∙ ap (set_of v) (ap (λ y. map f (take i xs) ++ f y ∷ []) is ∙ sym (map_more f xs i x h))

@@ -4,33 +4,31 @@ use Rattle.std.specs.List.{range_with_len, list_any}
 use Rattle.std.proofs.lemmas.Bool.{cases_lt, eqb-true}
 use Rattle.std.proofs.lemmas.Map.Views.{any-filter_same}
 use Rattle.std.proofs.lemmas.Slice.Eq.{bytes_eq-Decides}
+use Rattle.df_lists.proofs.SetLaws.{set_picked}
 use Rattle.df_lists.specs.NumberSets.{has_member, IsSet}
 use Rattle.df_lists.specs.Totals.{total, one}
 use Rattle.df_lists.specs.LeastMembers.{any_below, is_least, IsSameness}
 use Rattle.df_lists.proofs.TotalLaws.{total_same, total_turn}
 use Rattle.df_lists.proofs.LeastLaws.{leasts}
-use Rattle.df_lists.proofs.CountLaws.{cb, sb, cb_is, sb_filter, sb_range}
+use Rattle.df_lists.proofs.CountLaws.{list_count, list_count_is, list_total_filter, list_total_range}
+use Rattle.df_lists.proofs.ListTotals.{list_total}
 use Rattle.df_lists.proofs.TestLaws.{same_tests}
 use Rattle.df_group.specs.Elements.{order_of, group_of, IsGroup, minus}
 use Rattle.df_group.specs.ClosedSets.{IsClosed}
 use Rattle.df_group.proofs.GroupLaws.{far, less_more, minus_minus, minus_self, neg_is, plus_four, turns_less}
-use Rattle.df_lang.specs.declared.parts.Kind.TheVariants as kinds
+use Rattle.df_lang.specs.declared.pieces.Kind.TheVariants as kinds
 use Rattle.df_lang.specs.Problems.{Stated, point_count}
 use Rattle.df_family.specs.Translates.{translate, same_translate, fixes, stabilizer_under}
 use Rattle.df_family.specs.Developments.{is_listed}
 use Rattle.df_family.proofs.TranslateLaws.{same_by_stabilizer, translate_zero}
 
-pub cb_sb : {X : Type 0} (t : X → Bool) (xs : List X) → cb t xs ≡ sb (λ x. one (t x)) xs
-cb_sb t [] = refl
-cb_sb t (x ∷ xs) = ap (λ n. one (t x) + n) (cb_sb t xs)
-
-pub length_sb : {X : Type 0} (xs : List X) → length xs ≡ sb (λ x. 1) xs
-length_sb [] = refl
-length_sb (x ∷ xs) = let ih = length_sb xs in omega arith
+pub length_total : {X : Type 0} (xs : List X) → length xs ≡ list_total (λ x. 1) xs
+length_total [] = refl
+length_total (x ∷ xs) = let ih = length_total xs in omega arith
 
 -- a sum over a set is one over all numbers below its bound
-pub sb_set : (n : ℕ) (set : List ℕ) (F : ℕ → ℕ) → IsSet n set → sb F set ≡ total (λ x. cond (has_member set x) (F x) 0) n
-sb_set n set F is = ap (sb F) is ∙ sb_filter (has_member set) F (range_with_len 0 n) ∙ sb_range (λ x. cond (has_member set x) (F x) 0) n
+pub list_total_set : (n : ℕ) (set : List ℕ) (F : ℕ → ℕ) → IsSet n set → list_total F set ≡ total (λ x. cond (has_member set x) (F x) 0) n
+list_total_set n set F is = ap (list_total F) (set_picked n set is) ∙ list_total_filter (has_member set) F (range_with_len 0 n) ∙ list_total_range (λ x. cond (has_member set x) (F x) 0) n
 
 total_has : (F : ℕ → ℕ) (c n : ℕ) → c < n → F c ≤ total F n
 total_has F c zero h = absurd (omega arith)
@@ -63,7 +61,7 @@ filter_filter t u (x ∷ xs) =
 
 -- what a test picks from a set, as what it picks from all numbers below the bound
 pub filter_set : (n : ℕ) (set : List ℕ) (t : ℕ → Bool) → IsSet n set → filter t set ≡ filter (λ x. has_member set x && t x) (range_with_len 0 n)
-filter_set n set t is = ap (filter t) is ∙ filter_filter t (has_member set) (range_with_len 0 n)
+filter_set n set t is = ap (filter t) (set_picked n set is) ∙ filter_filter t (has_member set) (range_with_len 0 n)
 
 pub has_filtered : (t : ℕ → Bool) (xs : List ℕ) (p : ℕ) → has_member (filter t xs) p ≡ (t p && has_member xs p)
 has_filtered t xs p = any-filter_same (λ q. eqb q p) t (t p) (λ k e. ap t (eqb-true k p e)) xs
@@ -179,12 +177,12 @@ module _ (s : Stated) (is : IsGroup (group_of s.group)) (shifts : List ℕ) (clo
       stabilizer_total : stabilizer_under s shifts block ≡ total (λ x. one (has_member shifts x && fixes s block x)) (order_of s.group)
       stabilizer_total =
           let n = order_of s.group in
-          sym (cb_is (fixes s block) shifts) ∙ cb_sb (fixes s block) shifts ∙ sb_set n shifts (λ x. one (fixes s block x)) closed.set
+          sym (list_count_is (fixes s block) shifts) ∙ list_total_set n shifts (λ x. one (fixes s block x)) closed.set
           ∙ total_same (λ x. cond (has_member shifts x) (one (fixes s block x)) 0) (λ x. one (has_member shifts x && fixes s block x)) n (λ x h. sym (one_both (has_member shifts x) (fixes s block x)))
 
       -- as many shifts give a translate as fix the block
-      class_size : (h : ℕ) → total (λ g. one (same_under h g)) (order_of s.group) ≡ stabilizer_under s shifts block
-      class_size h =
+      same_size : (h : ℕ) → total (λ g. one (same_under h g)) (order_of s.group) ≡ stabilizer_under s shifts block
+      same_size h =
           let G = group_of s.group in
           let n = order_of s.group in
           let fixing : ℕ → ℕ = λ x. one (has_member shifts x && fixes s block x) in
@@ -201,16 +199,16 @@ module _ (s : Stated) (is : IsGroup (group_of s.group)) (shifts : List ℕ) (clo
 
       -- a sum over the shifts, of numbers that the translates tell, is one over the listed shifts, each as often as shifts fix the block
       pub sum_listed : (W : ℕ → ℕ) → ((g h : ℕ) → same_translate s block h g ≡ true → W g ≡ W h)
-          → sb W shifts ≡ stabilizer_under s shifts block * sb W (filter (is_listed s shifts kinds.Short block) shifts)
-      sum_listed W alike =
+          → list_total W shifts ≡ stabilizer_under s shifts block * list_total W (filter (is_listed s shifts kinds.Short block) shifts)
+      sum_listed W agree_here =
           let n = order_of s.group in
           let F : ℕ → ℕ = λ x. cond (has_member shifts x) (W x) 0 in
           let L = is_listed s shifts kinds.Short block in
-          sb_set n shifts W closed.set
-          ∙ leasts n same_under sameness F (stabilizer_under s shifts block) (λ g h l m e. let r = each _ _ e in ap (λ v. cond v (W g) 0) (coset_both g h l m r.0) ∙ ap (λ x. cond (has_member shifts h) x 0) (alike g h r.1)) (λ h l. class_size h)
+          list_total_set n shifts W closed.set
+          ∙ leasts n same_under sameness F (stabilizer_under s shifts block) (λ g h l m e. let r = each _ _ e in ap (λ v. cond v (W g) 0) (coset_both g h l m r.0) ∙ ap (λ x. cond (has_member shifts h) x 0) (agree_here g h r.1)) (λ h l. same_size h)
           ∙ ap (λ x. stabilizer_under s shifts block * x)
           (total_same (λ x. cond (is_least same_under x) (F x) 0) (λ x. cond (has_member shifts x) (cond (L x) (W x) 0) 0) n (λ x l. swapped x l (has_member shifts x) refl)
-          ∙ sym (sb_filter L W shifts ∙ sb_set n shifts (λ x. cond (L x) (W x) 0) closed.set))
+          ∙ sym (list_total_filter L W shifts ∙ list_total_set n shifts (λ x. cond (L x) (W x) 0) closed.set))
         where
           nothing : (v : Bool) (z : ℕ) → z ≡ 0 → cond v z 0 ≡ 0
           nothing true z h = h

@@ -4,12 +4,13 @@ use Rattle.std.proofs.lemmas.List.Sums.{count_by-le-length}
 use Rattle.std.proofs.Math.Nat.{div-le_self}
 use Rattle.std.proofs.lemmas.Bool.{cases_lt}
 use Rattle.df_lists.specs.NumberSets.{has_member}
-use Rattle.df_lists.proofs.CountLaws.{sb, sb_is}
+use Rattle.df_lists.proofs.CountLaws.{list_total_is}
+use Rattle.df_lists.proofs.ListTotals.{list_total}
 use Rattle.df_group.specs.Elements.{order_of, group_of, minus}
-use Rattle.df_lang.specs.declared.parts.Kind.{Kind}
-use Rattle.df_lang.specs.declared.parts.Kind.TheVariants as kinds
+use Rattle.df_lang.specs.declared.pieces.Kind.{Kind}
+use Rattle.df_lang.specs.declared.pieces.Kind.TheVariants as kinds
 use Rattle.df_lang.specs.Problems.{Stated}
-use Rattle.df_lang.specs.Balance.{holds}
+use Rattle.df_lang.specs.Balance.{holds_both}
 use Rattle.df_family.specs.declared.table.Row.{Row}
 use Rattle.df_family.specs.declared.table.Row.TheVariants.{Diff, WithFixed, TwoFixed}
 use Rattle.df_family.specs.declared.tally.Tally.{Tally}
@@ -17,12 +18,12 @@ use Rattle.df_family.specs.Translates.{stabilizer}
 use Rattle.df_family.specs.Tables.{finite_points, occurs, summand_of}
 use Rattle.df_family.specs.Tallies.{number_at, HasNumber, IsWithin}
 
-sb_small : (F : ℕ → ℕ) (m : ℕ) (xs : List ℕ) → ((x : ℕ) → F x ≤ m) → sb F xs ≤ m * length xs
-sb_small F m [] h = omega arith
-sb_small F m (x ∷ xs) h = let ih = sb_small F m xs h in let here = h x in omega arith
+list_total_small : (F : ℕ → ℕ) (m : ℕ) (xs : List ℕ) → ((x : ℕ) → F x ≤ m) → list_total F xs ≤ m * length xs
+list_total_small F m [] h = omega arith
+list_total_small F m (x ∷ xs) h = let ih = list_total_small F m xs h in let here = h x in omega arith
 
 pub sum_small : (F : ℕ → ℕ) (m : ℕ) (xs : List ℕ) → ((x : ℕ) → F x ≤ m) → sum_by F xs ≤ m * length xs
-sum_small F m xs h = omega (arith, sb_small F m xs h, sb_is F xs)
+sum_small F m xs h = omega (arith, list_total_small F m xs h, list_total_is F xs)
 
 -- how often differences occur among at most 128 elements
 pub differences_small : (s : Stated) (d : ℕ) (all some : List ℕ) → length all ≤ 128 → length some ≤ 128 → sum_by (λ b. count_by (λ a. eqb (minus (group_of s.group) a b) d) all) some ≤ 16384
@@ -37,7 +38,7 @@ cond_small false n m h = omega arith
 pub occurs_small : (s : Stated) (block : List ℕ) → length (finite_points s block) ≤ 128 → order_of s.group ≤ 128 → (row : Row) → occurs s row block ≤ 16384
 occurs_small s block few small (Diff d) = differences_small s d (finite_points s block) (finite_points s block) few few
 occurs_small s block few small (WithFixed i) = cond_small (has_member block (order_of s.group + (i - 1))) (length (finite_points s block)) 16384 (omega arith)
-occurs_small s block few small (TwoFixed i j) = cond_small (holds block (order_of s.group + (i - 1)) (order_of s.group + (j - 1))) (order_of s.group) 16384 (omega arith)
+occurs_small s block few small (TwoFixed i j) = cond_small (holds_both block (order_of s.group + (i - 1)) (order_of s.group + (j - 1))) (order_of s.group) 16384 (omega arith)
 
 pub summand_small : (s : Stated) (k : Kind) (block : List ℕ) (row : Row) → occurs s row block ≤ 16384 → summand_of s row k block ≤ 16384
 summand_small s kinds.Base block row h = h
@@ -59,7 +60,7 @@ within_pairs s t b h c l = omega (arith, h (TwoFixed (c / 16 + 1) (c % 16 + 1)) 
 pub counted : (s : Stated) (block : List ℕ) (old new : Tally)
     → ((d : ℕ) → d < order_of s.group → get_or new.differences d 0 ≡ get_or old.differences d 0 + occurs s (Diff d) block)
     → ((i : ℕ) → i < s.fixed → get_or new.singles i 0 ≡ get_or old.singles i 0 + cond (has_member block (order_of s.group + i)) (length (finite_points s block)) 0)
-    → ((c : ℕ) → c < 16 * s.fixed → get_or new.pairs c 0 ≡ get_or old.pairs c 0 + cond (holds block (order_of s.group + c / 16) (order_of s.group + c % 16)) (order_of s.group) 0)
+    → ((c : ℕ) → c < 16 * s.fixed → get_or new.pairs c 0 ≡ get_or old.pairs c 0 + cond (holds_both block (order_of s.group + c / 16) (order_of s.group + c % 16)) (order_of s.group) 0)
     → (row : Row) → HasNumber s row → number_at new row ≡ number_at old row + occurs s row block
 counted s block old new D S P (Diff d) h = D d h
 counted s block old new D S P (WithFixed i) h = S (i - 1) (omega (arith, h.0, h.1))
@@ -71,8 +72,8 @@ counted s block old new D S P (TwoFixed i j) h =
     let c = 16 * (i - 1) + (j - 1) in
     let first : c / 16 ≡ i - 1 = omega arith in
     let second : c % 16 ≡ j - 1 = omega arith in
-    P c (omega arith) ∙ ap (λ x. get_or old.pairs c 0 + cond (holds block (order_of s.group + x) (order_of s.group + c % 16)) (order_of s.group) 0) first
-    ∙ ap (λ y. get_or old.pairs c 0 + cond (holds block (order_of s.group + (i - 1)) (order_of s.group + y)) (order_of s.group) 0) second
+    P c (omega arith) ∙ ap (λ x. get_or old.pairs c 0 + cond (holds_both block (order_of s.group + x) (order_of s.group + c % 16)) (order_of s.group) 0) first
+    ∙ ap (λ y. get_or old.pairs c 0 + cond (holds_both block (order_of s.group + (i - 1)) (order_of s.group + y)) (order_of s.group) 0) second
 
 -- quotients are added, row by row
 pub quotients_added : (s : Stated) (divisor : ℕ) (own old new : Tally)

@@ -3,12 +3,12 @@ use Rattle.std.specs.Prelude.{◌≡◌, ◌==◌, ℕ, ◌<◌, ◌*◌, ◌/�
 use Rattle.df_lists.specs.NumberSets.{has_member, IsSet}
 use Rattle.df_group.specs.Elements.{group_of, minus}
 use Rattle.df_group.specs.Subgroups.{same_coset, IsSubgroup}
-use Rattle.df_lang.specs.declared.parts.Kind.{Kind}
-use Rattle.df_lang.specs.declared.parts.Kind.TheVariants as kinds
-use Rattle.df_lang.specs.declared.parts.Member.{Member}
+use Rattle.df_lang.specs.declared.pieces.Kind.{Kind}
+use Rattle.df_lang.specs.declared.pieces.Kind.TheVariants as kinds
+use Rattle.df_lang.specs.declared.pieces.Member.{Member}
 use Rattle.df_lang.specs.Problems.{Stated, IsStated, point_count}
 use Rattle.df_lang.specs.Targets.{is_finite}
-use Rattle.df_lang.specs.Balance.{holds, cover}
+use Rattle.df_lang.specs.Balance.{holds_both, cover}
 use Rattle.df_family.specs.Translates.{stabilizer_under}
 use Rattle.df_family.specs.Developments.{develop_under}
 use Rattle.df_family.specs.Tables.{finite_points}
@@ -23,7 +23,7 @@ abbrev pub occurs_at : Stated → List ℕ → ℕ → ℕ → List ℕ → ℕ
 occurs_at s shifts p q block =
     if is_finite s q then sum_by (λ b. count_by (λ a. minus (group_of s.group) a b == minus (group_of s.group) q p) (finite_points s block)) (coset_points s shifts block p) else
     (if is_finite s p then (if has_member block q then length (coset_points s shifts block p) else 0) else
-    (if holds block p q then length shifts else 0))
+    (if holds_both block p q then length shifts else 0))
 
 -- what a block adds: a short one its number divided by that of the shifts that fix it
 abbrev pub summand_at : Stated → List ℕ → ℕ → ℕ → Kind → List ℕ → ℕ

@@ -1,10 +1,11 @@
 -- The development of a family: the translates of its blocks by all elements of the group, or by those of a subgroup. Of a short block each
 -- translate is listed once.
-use Rattle.std.specs.Prelude.{ℕ, Bool, true, not, ◌&&◌, List, [], ◌∷◌, map, filter, nat_lt, bytes_eq}
+use Rattle.std.specs.Prelude.{ℕ, Bool, true, not, ◌&&◌, List, [], ◌∷◌, map, filter, nat_lt}
 use Rattle.std.specs.List.{flat_map, list_any}
-use Rattle.df_lang.specs.declared.parts.Kind.{Kind}
-use Rattle.df_lang.specs.declared.parts.Kind.TheVariants as kinds
-use Rattle.df_lang.specs.declared.parts.Member.{Member}
+use Rattle.df_subsets.specs.Subsets.{same_list}
+use Rattle.df_lang.specs.declared.pieces.Kind.{Kind}
+use Rattle.df_lang.specs.declared.pieces.Kind.TheVariants as kinds
+use Rattle.df_lang.specs.declared.pieces.Member.{Member}
 use Rattle.df_lang.specs.Problems.{Stated}
 use Rattle.df_family.specs.Translates.{elements, translate, same_translate}
 
@@ -16,7 +17,7 @@ is_listed s shifts kinds.Short block g = not (list_any (λ h. nat_lt h g && same
 -- a list of blocks, of which each stays only where it first occurs
 abbrev pub first_occurrences : List (List ℕ) → List (List ℕ)
 first_occurrences [] = []
-first_occurrences (b ∷ bs) = b ∷ filter (λ c. not (bytes_eq c b)) (first_occurrences bs)
+first_occurrences (b ∷ bs) = b ∷ filter (λ c. not (same_list c b)) (first_occurrences bs)
 
 -- the translates of a member by these elements, in order
 abbrev pub translates_under : Stated → List ℕ → Member → List (List ℕ)

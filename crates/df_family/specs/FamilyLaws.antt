@@ -3,13 +3,13 @@ use Rattle.std.specs.Prelude.{◌≡◌, ◌↔◌, ℕ, ◌*◌, ◌<◌, true,
 use Rattle.df_lists.specs.Membership.{In}
 use Rattle.df_lists.specs.NumberSets.{has_member, IsSet}
 use Rattle.df_lists.specs.Orders.{IsSorted}
-use Rattle.df_group.specs.Elements.{group_of}
+use Rattle.df_group.specs.Elements.{group_of, shifted}
 use Rattle.df_group.specs.Subgroups.{IsSubgroup}
-use Rattle.df_lang.specs.declared.parts.Kind.TheVariants as kinds
+use Rattle.df_lang.specs.declared.pieces.Kind.TheVariants as kinds
 use Rattle.df_lang.specs.Problems.{Stated, IsStated, point_count}
 use Rattle.df_lang.specs.Balance.{IsBalanced}
 use Rattle.df_family.specs.declared.table.Row.{Row}
-use Rattle.df_family.specs.Translates.{shifted, translate, stabilizer, stabilizer_under}
+use Rattle.df_family.specs.Translates.{translate, stabilizer, stabilizer_under}
 use Rattle.df_family.specs.Developments.{first_occurrences, translates_under, develop}
 use Rattle.df_family.specs.Tables.{rows, occurs, IsAsStated}
 use Rattle.df_family.specs.Verdicts.{verdict_on, is_accepted}
@@ -38,4 +38,4 @@ OccurrenceLaw = (s : Stated) (shifts block : List ℕ) → IsSorted nat_lt shift
 
 -- block + g holds a point exactly where the block holds the point that -g carries it to
 abbrev pub PreimageLaw : Type 0
-PreimageLaw = (s : Stated) → IsStated s → (block : List ℕ) (g p : ℕ) → p < point_count s → has_member (translate s block g) p ≡ has_member block (shifted s ((group_of s.group).neg g) p)
+PreimageLaw = (s : Stated) → IsStated s → (block : List ℕ) (g p : ℕ) → p < point_count s → has_member (translate s block g) p ≡ has_member block (shifted (group_of s.group) ((group_of s.group).neg g) p)

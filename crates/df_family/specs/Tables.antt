@@ -4,12 +4,12 @@ use Rattle.std.specs.List.{range_with_len, flat_map}
 use Rattle.df_lists.specs.Membership.{In}
 use Rattle.df_lists.specs.NumberSets.{has_member}
 use Rattle.df_group.specs.Elements.{order_of, group_of, minus}
-use Rattle.df_lang.specs.declared.parts.Kind.{Kind}
-use Rattle.df_lang.specs.declared.parts.Kind.TheVariants as kinds
-use Rattle.df_lang.specs.declared.parts.Member.{Member}
+use Rattle.df_lang.specs.declared.pieces.Kind.{Kind}
+use Rattle.df_lang.specs.declared.pieces.Kind.TheVariants as kinds
+use Rattle.df_lang.specs.declared.pieces.Member.{Member}
 use Rattle.df_lang.specs.Problems.{Stated}
 use Rattle.df_lang.specs.Targets.{is_finite, target}
-use Rattle.df_lang.specs.Balance.{holds}
+use Rattle.df_lang.specs.Balance.{holds_both}
 use Rattle.df_family.specs.declared.table.Row.{Row}
 use Rattle.df_family.specs.declared.table.Row.TheVariants.{Diff, WithFixed, TwoFixed}
 use Rattle.df_family.specs.declared.table.Entry.{Entry}
@@ -57,7 +57,7 @@ finite_points s block = filter (is_finite s) block
 abbrev pub occurs : Stated → Row → List ℕ → ℕ
 occurs s (Diff d) block = sum_by (λ b. count_by (λ a. minus (group_of s.group) a b == d) (finite_points s block)) (finite_points s block)
 occurs s (WithFixed i) block = if has_member block (fixed_point s i) then length (finite_points s block) else 0
-occurs s (TwoFixed i j) block = if holds block (fixed_point s i) (fixed_point s j) then order_of s.group else 0
+occurs s (TwoFixed i j) block = if holds_both block (fixed_point s i) (fixed_point s j) then order_of s.group else 0
 
 -- what a block adds to a row: a short one its number divided by that of the translations that fix it
 abbrev pub summand_of : Stated → Row → Kind → List ℕ → ℕ

@@ -8,7 +8,7 @@ ghost use Rattle.std.specs.Prelude.{◌≡◌, ◌≢◌, ◌==◌, ℕ, ◌+◌
 ghost use Rattle.df_lists.specs.NumberSets.{has_member, IsSet};
 ghost use Rattle.df_group.specs.Elements.{order_of, group_of, minus};
 ghost use Rattle.df_lang.specs.Problems.{IsStated, point_count};
-ghost use Rattle.df_lang.specs.Balance.{holds};
+ghost use Rattle.df_lang.specs.Balance.{holds_both};
 ghost use Rattle.df_family.specs.Developments.{translates};
 ghost use Rattle.df_family.specs.Tables.{finite_points as finite_points_of, occurs, summand};
 ghost use Rattle.df_family.specs.Tallies.{number_at, IsCell, HasNumber, IsWithin};
@@ -185,7 +185,7 @@ fn count_pairs(cells: &mut [u64; 256], problem: &Problem, block: &Block)
     requires rules { IsStated problem.now }
     requires room { (c : ℕ) → c < 16 * problem.now.fixed → slice_index cells.old c ≤ 2 ^ 40 }
     ensures { (c : ℕ) → c < 16 * problem.now.fixed → slice_index cells.new c
-        ≡ slice_index cells.old c + (if holds block.now (order_of problem.now.group + c / 16) (order_of problem.now.group + c % 16) then order_of problem.now.group else 0) }
+        ≡ slice_index cells.old c + (if holds_both block.now (order_of problem.now.group + c / 16) (order_of problem.now.group + c % 16) then order_of problem.now.group else 0) }
 {
     for i in 0..problem.fixed {
         count_pairs_with(cells, problem, block, i);
@@ -198,7 +198,7 @@ fn count_pairs_with(cells: &mut [u64; 256], problem: &Problem, block: &Block, i:
     requires i { i < problem.now.fixed }
     requires room { (j : ℕ) → j < 16 → slice_index cells.old (16 * i + j) ≤ 2 ^ 40 }
     ensures here { (j : ℕ) → j < 16 → slice_index cells.new (16 * i + j)
-        ≡ slice_index cells.old (16 * i + j) + (if holds block.now (order_of problem.now.group + i) (order_of problem.now.group + j) then order_of problem.now.group else 0) }
+        ≡ slice_index cells.old (16 * i + j) + (if holds_both block.now (order_of problem.now.group + i) (order_of problem.now.group + j) then order_of problem.now.group else 0) }
     ensures elsewhere { (c : ℕ) → c / 16 ≢ i → slice_index cells.new c ≡ slice_index cells.old c }
 {
     if !block.has(fixed_point(problem, i + 1)) {

@@ -1,7 +1,7 @@
 // Translates of blocks, and the translations that fix a block.
 ghost use Rattle.std.specs.Prelude.{◌≡◌, ◌≤◌, ◌<◌, ◌&&◌, All, length, filter};
 ghost use Rattle.df_lists.specs.NumberSets.{has_member};
-ghost use Rattle.df_group.specs.Elements.{order_of};
+ghost use Rattle.df_group.specs.Elements.{order_of, shifted};
 ghost use Rattle.df_group.specs.Subgroups.{IsSubgroup};
 ghost use Rattle.df_lang.specs.Problems.{point_count};
 ghost use Rattle.df_family.specs.Translates.{shifted as shifted_point, translate, fixes, stabilizer as stabilizer_of};

@@ -1,5 +1,5 @@
 -- Products of cyclic groups (Beth, Jungnickel and Lenz, Design Theory): an element is a list of residues, one for each factor.
-use Rattle.std.specs.Prelude.{◌≡◌, ℕ, ◌+◌, ◌-◌, ◌*◌, ◌/◌, ◌%◌, ◌<◌, ◌≤◌, List, [], ◌∷◌, map, All, length}
+use Rattle.std.specs.Prelude.{◌≡◌, ℕ, ◌+◌, ◌-◌, ◌*◌, ◌/◌, ◌%◌, ◌<◌, ◌≤◌, List, [], ◌∷◌, map, All, length, nat_lt, if◌then◌else◌}
 use Rattle.std.specs.List.{flat_map, range_with_len}
 
 -- how many elements there are
@@ -57,6 +57,10 @@ pub record Group : Type 0 where
 
 abbrev pub minus : Group → ℕ → ℕ → ℕ
 minus G a b = G.plus a (G.neg b)
+
+-- x -> x + h on elements; each number from the order on stays, as fixed points do
+abbrev pub shifted : Group → ℕ → ℕ → ℕ
+shifted G h p = if nat_lt p G.order then G.plus p h else p
 
 -- the product of the cyclic groups of these orders, on the numbers of its elements
 abbrev pub group_of : List ℕ → Group

@@ -6,17 +6,18 @@ use Rattle.df_lists.specs.Membership.{In, count}
 use Rattle.df_lists.proofs.MemberLaws.{count_none}
 use Rattle.df_lists.proofs.TestLaws.{any_gives}
 use Rattle.df_lists.proofs.ListTotals.{count_whole}
-use Rattle.df_subsets.specs.Blocks.{Rises, before}
+use Rattle.df_lists.specs.NumberSets.{Rises}
+use Rattle.df_subsets.specs.Blocks.{before}
 use Rattle.df_subsets.specs.Subsets.{points, nonempty, candidates, binomial}
 use Rattle.df_subsets.specs.SetLaws.{AreSets}
 use Rattle.df_subsets.specs.SubsetLaws.{SubsetsAreAll, CandidatesAreAll}
 use Rattle.df_subsets.proofs.Binomials.{binomial_turn}
 use Rattle.df_subsets.proofs.SizedLists.{choose_is}
-use Rattle.df_acting.specs.Earliest.{is_earliest}
-use Rattle.df_acting.specs.Images.{holds}
+use Rattle.df_acting.specs.Representatives.{is_representative}
+use Rattle.df_acting.specs.Images.{contains}
 use Rattle.df_maps.specs.FullMaps.{full_maps, image}
 use Rattle.df_lang.specs.Problems.{Stated, IsStated, point_count}
-use Rattle.df_kramer_mesner.specs.OrbitSystems.{maps_of_problem, all_pairs, all_blocks, alike}
+use Rattle.df_kramer_mesner.specs.OrbitSystems.{maps_of_problem, all_pairs, all_blocks, in_one_orbit}
 use Rattle.df_kramer_mesner.specs.Laws.{AreFew}
 use Rattle.df_kramer_mesner.proofs.OrbitBlocks.{block_sized, orbit_block, row_pair, stated_block, pair_points}
 
@@ -62,12 +63,12 @@ sizes_count all v low top (k ∷ ks) r =
 
 pub are_few : AreSets → SubsetsAreAll → CandidatesAreAll → (s : Stated) → IsStated s → AreFew s
 are_few sets all some s is = record {
-  pairs = let few = count_whole (is_earliest before (image (maps_of_problem s)) (full_maps (maps_of_problem s))) (all_pairs s) in omega (arith, few, (all (point_count s) 2).long, pairs_most (point_count s) 128 127 is.points (omega (arith, is.points)));
+  pairs = let few = count_whole (is_representative before (image (maps_of_problem s)) (full_maps (maps_of_problem s))) (all_pairs s) in omega (arith, few, (all (point_count s) 2).long, pairs_most (point_count s) 128 127 is.points (omega (arith, is.points)));
   pair = λ pair i. let r = (all (point_count s) 2).inside pair (row_pair s pair i) in pair_points (point_count s) pair r.0 r.1;
   orbit = λ b i. stated_block sets s b (block_sized all some s is b (orbit_block s b i));
   orbit_low = λ b i. (block_sized all some s is b (orbit_block s b i)).low;
   orbit_high = λ b i. (block_sized all some s is b (orbit_block s b i)).high;
-  blocks = sizes_count all (point_count s) 0 17 s.sizes (sets.from_set 17 s.sizes is.sizes_rise);
-  entry = λ b pair. count_whole (λ c. alike s c b && holds c pair) (all_blocks s);
-  class = λ b. count_whole (λ c. alike s c b) (all_blocks s);
+  blocks = sizes_count all (point_count s) 0 17 s.sizes is.sizes_rise;
+  entry = λ b pair. count_whole (λ c. in_one_orbit s c b && contains c pair) (all_blocks s);
+  orbit = λ b. count_whole (λ c. in_one_orbit s c b) (all_blocks s);
 }

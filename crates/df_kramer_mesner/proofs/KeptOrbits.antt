@@ -4,7 +4,7 @@ use Rattle.std.specs.Prelude.{nat_le}
 use Rattle.std.specs.List.{list_all, zip}
 use Rattle.std.proofs.lemmas.Bool.{and_parts, and_from, le-leb, leb-true, not-true, not_from_false}
 use Rattle.df_lang.specs.Problems.{Stated}
-use Rattle.df_kramer_mesner.specs.OrbitSystems.{has_alike, entries_of, targets_of, is_kept}
+use Rattle.df_kramer_mesner.specs.OrbitSystems.{has_in_orbit, entries_of, targets_of, is_kept}
 use Rattle.df_kramer_mesner.specs.Laws.{IsKeptWhere}
 use Rattle.df_kramer_mesner.proofs.RowLists.{are_rows}
 
@@ -26,12 +26,12 @@ module _ (s : Stated) (b : List ℕ) where
   same_rows : length (entries_of s b) ≡ length (targets_of s)
   same_rows = (are_rows s b).entries ∙ sym (are_rows s b).targets
 
-  parts : is_kept s b ≡ true → (all_within (entries_of s b) (targets_of s) ≡ true) × (not (has_alike s s.forbidden b) ≡ true)
-  parts h = and_parts (all_within (entries_of s b) (targets_of s)) (not (has_alike s s.forbidden b)) h
+  parts : is_kept s b ≡ true → (all_within (entries_of s b) (targets_of s) ≡ true) × (not (has_in_orbit s s.forbidden b) ≡ true)
+  parts h = and_parts (all_within (entries_of s b) (targets_of s)) (not (has_in_orbit s s.forbidden b)) h
 
   pub kept_where : IsKeptWhere s b
   kept_where = record {
     within = λ h row l. each_within (entries_of s b) (targets_of s) same_rows (parts h).0 row l;
-    allowed = λ h. not-true (has_alike s s.forbidden b) (parts h).1;
-    kept = λ within allowed. and_from (all_within (entries_of s b) (targets_of s)) (not (has_alike s s.forbidden b)) (within_from (entries_of s b) (targets_of s) same_rows within) (not_from_false (has_alike s s.forbidden b) allowed);
+    allowed = λ h. not-true (has_in_orbit s s.forbidden b) (parts h).1;
+    kept = λ within allowed. and_from (all_within (entries_of s b) (targets_of s)) (not (has_in_orbit s s.forbidden b)) (within_from (entries_of s b) (targets_of s) same_rows within) (not_from_false (has_in_orbit s s.forbidden b) allowed);
   }

@@ -1,4 +1,4 @@
-pub mod ClassMembers
+pub mod OrbitMembers
 pub mod EntryQuotients
 pub mod FewBlocks
 pub mod HeldPairs

@@ -48,9 +48,9 @@ module _ (sets : AreSets) (tell : RepresentativesTellOrbits) (found : PlacesAreF
 
   pub are_numbered : AreNumbered s
   are_numbered = record {
-    listed = λ b block. are.listed b (sets.from_set (point_count s) b block.set) (has_gives s.sizes (length b) block.size);
-    place = λ b block. place_there found (orbits_of s) _ are.sorted (are.listed b (sets.from_set (point_count s) b block.set) (has_gives s.sizes (length b) block.size));
-    alone = λ b c block i. are.alone b c (sets.from_set (point_count s) b block.set) (has_gives s.sizes (length b) block.size) i;
+    listed = λ b block. are.listed b block.set (has_gives s.sizes (length b) block.size);
+    place = λ b block. place_there found (orbits_of s) _ are.sorted (are.listed b block.set (has_gives s.sizes (length b) block.size));
+    alone = λ b c block i. are.alone b c block.set (has_gives s.sizes (length b) block.size) i;
     own = are.own;
     orbit = λ i b at. ap (λ c. place_of c (orbits_of s)) (are.own b (In-slice_get (orbits_of s) i b at)) ∙ found (orbits_of s) are.sorted i b at;
     column = λ i b at. of_kept b (In-filter_gives (is_kept s) (orbits_of s) b (In-slice_get (columns_of s) i b at)).1 ∙ ap Some (found (columns_of s) columns_sorted i b at);

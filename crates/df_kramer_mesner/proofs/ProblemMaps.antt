@@ -7,19 +7,19 @@ use Rattle.df_group.specs.Elements.{order_of}
 use Rattle.df_group.specs.Subgroups.{IsSubgroup}
 use Rattle.df_group.proofs.SubgroupLaws.{are_subgroups}
 use Rattle.df_subsets.specs.Subsets.{same_list}
-use Rattle.df_acting.specs.Classes.{IsMapGroup, IsSpread}
+use Rattle.df_acting.specs.Orbits.{IsMapGroup, IsSpread}
 use Rattle.df_acting.proofs.ImageLaws.{image_group}
 use Rattle.df_maps.proofs.SpreadLaws.{subsets_spread, candidates_spread}
 use Rattle.df_maps.specs.FullMaps.{full_maps, image, carried}
 use Rattle.df_maps.specs.Laws.{MapsAreMade, MapsAreGroups, AreGroup}
-use Rattle.df_lang.specs.declared.parts.Which.{Which}
-use Rattle.df_lang.specs.declared.parts.Which.TheVariants as which
-use Rattle.df_lang.specs.Problems.{Stated, IsStated, IsWord, IsMultiplier, point_count}
+use Rattle.df_lang.specs.declared.pieces.Which.{Which}
+use Rattle.df_lang.specs.declared.pieces.Which.TheVariants as which
+use Rattle.df_lang.specs.Problems.{Stated, IsStated, IsSubgroupName, IsMultiplier, point_count}
 use Rattle.df_lang.specs.Targets.{subgroup_at}
 use Rattle.df_kramer_mesner.specs.OrbitSystems.{maps_of_problem, all_pairs, all_blocks}
 
 -- what a word of a statement names is a subgroup
-pub word_subgroup : (s : Stated) → IsStated s → (word : Which) → IsWord s.names word → IsSubgroup s.group (subgroup_at s word)
+pub word_subgroup : (s : Stated) → IsStated s → (word : Which) → IsSubgroupName s.names word → IsSubgroup s.group (subgroup_at s word)
 word_subgroup s is which.All h = (range_with_len 0 (order_of s.group), (are_subgroups s.group is.shape).whole)
 word_subgroup s is which.Trivial h = ([], (are_subgroups s.group is.shape).trivial)
 word_subgroup s is (which.Named i) h = (is.names i ([], []) h).subgroup

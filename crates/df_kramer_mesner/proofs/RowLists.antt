@@ -2,7 +2,7 @@
 use Rattle.std.proofs.Common.{◌≡◌, ℕ, ◌+◌, ◌-◌, ◌<◌, ◌≤◌, ◌++◌, map, List, [], length, get_or, ◌∙◌, ap₂, arith, length-append}
 use Rattle.std.proofs.lemmas.List.{length-map, get_or_append_left, get_or-append_right, get_or-map}
 use Rattle.df_lang.specs.Problems.{Stated}
-use Rattle.df_kramer_mesner.specs.OrbitSystems.{pairs_of, needed_of, pair_target, pair_entry, needed_entry}
+use Rattle.df_kramer_mesner.specs.OrbitSystems.{pairs_of, needed_of, pair_target, orbit_cover, needed_entry}
 use Rattle.df_kramer_mesner.specs.Laws.{AreRows}
 
 -- two lists of numbers, each made from a list of blocks, one after the other
@@ -18,10 +18,10 @@ module _ {X : Type 0} (f g : X → ℕ) (xs ys : List X) where
 
 pub are_rows : (s : Stated) (b : List ℕ) → AreRows s b
 are_rows s b = record {
-  entries = both_long (pair_entry s b) (needed_entry b) (pairs_of s) (needed_of s);
+  entries = both_long (orbit_cover s b) (needed_entry b) (pairs_of s) (needed_of s);
   targets = both_long (pair_target s) (λ needed. 1) (pairs_of s) (needed_of s);
-  pair = λ row h. in_first (pair_entry s b) (needed_entry b) (pairs_of s) (needed_of s) row [] h;
-  needed = λ row h k. in_second (pair_entry s b) (needed_entry b) (pairs_of s) (needed_of s) row [] h k;
+  pair = λ row h. in_first (orbit_cover s b) (needed_entry b) (pairs_of s) (needed_of s) row [] h;
+  needed = λ row h k. in_second (orbit_cover s b) (needed_entry b) (pairs_of s) (needed_of s) row [] h k;
   pair_target = λ row h. in_first (pair_target s) (λ needed. 1) (pairs_of s) (needed_of s) row [] h;
   needed_target = λ row h k. in_second (pair_target s) (λ needed. 1) (pairs_of s) (needed_of s) row [] h k;
 }

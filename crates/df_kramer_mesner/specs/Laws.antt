@@ -6,16 +6,16 @@ use Rattle.df_walk.specs.declared.Cell.{Cell}
 use Rattle.df_walk.specs.Systems.{IsSystem, AreCells, entry_of, entry}
 use Rattle.df_subsets.specs.Subsets.{binomial, same_list}
 use Rattle.df_system.specs.Storage.{positive_cells}
-use Rattle.df_kramer_mesner.specs.OrbitSystems.{all_pairs, all_blocks, alike, has_alike, pairs_of, orbits_of, needed_of, pair_target, pair_entry, needed_entry, entries_of, targets_of, is_kept, pairs_within, row_size, orbit_size, orbit_system, columns_of, entry_at, representative, orbit_number, column_at, column_number}
+use Rattle.df_kramer_mesner.specs.OrbitSystems.{all_pairs, all_blocks, in_one_orbit, has_in_orbit, pairs_of, orbits_of, needed_of, pair_target, orbit_cover, needed_entry, entries_of, targets_of, is_kept, pairs_within, row_size, orbit_size, orbit_system, columns_of, entry_at, representative, orbit_number, column_at, column_number}
 
--- the entry of a row and an orbit, times the pairs of the row's class, is the blocks of the orbit's class times the pairs of one of them that lie in the row's class
+-- the entry of a row and an orbit, times the pairs of the row's orbit, is the blocks of the orbit times the pairs of one of them that lie in the row's orbit
 pub record IsQuotient (s : Stated) (b pair : List ℕ) : Type 0 where
-  pub product : pair_entry s b pair * row_size s pair ≡ orbit_size s b * pairs_within s b pair
+  pub product : orbit_cover s b pair * row_size s pair ≡ orbit_size s b * pairs_within s b pair
   pub some : 0 < row_size s pair
   -- so the division leaves no rest
-  pub quotient : pair_entry s b pair ≡ (orbit_size s b * pairs_within s b pair) / row_size s pair
-  -- and the entry is the same for each pair of the class
-  pub same : (other : List ℕ) → alike s pair other ≡ true → pair_entry s b other ≡ pair_entry s b pair
+  pub quotient : orbit_cover s b pair ≡ (orbit_size s b * pairs_within s b pair) / row_size s pair
+  -- and the entry is the same for each pair of the orbit
+  pub same : (other : List ℕ) → in_one_orbit s pair other ≡ true → orbit_cover s b other ≡ orbit_cover s b pair
 
 abbrev pub EntriesAreQuotients : Type 0
 EntriesAreQuotients = (s : Stated) → IsStated s → (b pair : List ℕ) → In (all_blocks s) b → In (all_pairs s) pair → IsQuotient s b pair
@@ -32,7 +32,7 @@ CellsAreTold = (rows : ℕ) (cells : List Cell) (entries : List ℕ) → length 
 pub record AreRows (s : Stated) (b : List ℕ) : Type 0 where
   pub entries : length (entries_of s b) ≡ length (pairs_of s) + length (needed_of s)
   pub targets : length (targets_of s) ≡ length (pairs_of s) + length (needed_of s)
-  pub pair : (row : ℕ) → row < length (pairs_of s) → slice_index (entries_of s b) row ≡ pair_entry s b (slice_index_or (pairs_of s) row [])
+  pub pair : (row : ℕ) → row < length (pairs_of s) → slice_index (entries_of s b) row ≡ orbit_cover s b (slice_index_or (pairs_of s) row [])
   pub needed : (row : ℕ) → length (pairs_of s) ≤ row → row < length (pairs_of s) + length (needed_of s) → slice_index (entries_of s b) row ≡ needed_entry b (slice_index_or (needed_of s) (row - length (pairs_of s)) [])
   pub pair_target : (row : ℕ) → row < length (pairs_of s) → slice_index (targets_of s) row ≡ pair_target s (slice_index_or (pairs_of s) row [])
   pub needed_target : (row : ℕ) → length (pairs_of s) ≤ row → row < length (pairs_of s) + length (needed_of s) → slice_index (targets_of s) row ≡ 1
@@ -40,11 +40,11 @@ pub record AreRows (s : Stated) (b : List ℕ) : Type 0 where
 abbrev pub RowsArePairsAndNeeded : Type 0
 RowsArePairsAndNeeded = (s : Stated) (b : List ℕ) → AreRows s b
 
--- an orbit is kept exactly where no row's entry is above its target and the class has no forbidden block
+-- an orbit is kept exactly where no row's entry is above its target and the orbit has no forbidden block
 pub record IsKeptWhere (s : Stated) (b : List ℕ) : Type 0 where
   pub within : is_kept s b ≡ true → (row : ℕ) → row < length (targets_of s) → slice_index (entries_of s b) row ≤ slice_index (targets_of s) row
-  pub allowed : is_kept s b ≡ true → has_alike s s.forbidden b ≡ false
-  pub kept : ((row : ℕ) → row < length (targets_of s) → slice_index (entries_of s b) row ≤ slice_index (targets_of s) row) → has_alike s s.forbidden b ≡ false → is_kept s b ≡ true
+  pub allowed : is_kept s b ≡ true → has_in_orbit s s.forbidden b ≡ false
+  pub kept : ((row : ℕ) → row < length (targets_of s) → slice_index (entries_of s b) row ≤ slice_index (targets_of s) row) → has_in_orbit s s.forbidden b ≡ false → is_kept s b ≡ true
 
 abbrev pub OrbitsAreKept : Type 0
 OrbitsAreKept = (s : Stated) (b : List ℕ) → IsKeptWhere s b
@@ -63,8 +63,8 @@ pub record AreFew (s : Stated) : Type 0 where
   pub orbit_low : (b : List ℕ) → In (orbits_of s) b → 2 ≤ length b
   pub orbit_high : (b : List ℕ) → In (orbits_of s) b → length b ≤ 16
   pub blocks : length (all_blocks s) ≡ sum_by (binomial (point_count s)) s.sizes
-  pub entry : (b pair : List ℕ) → pair_entry s b pair ≤ length (all_blocks s)
-  pub class : (b : List ℕ) → orbit_size s b ≤ length (all_blocks s)
+  pub entry : (b pair : List ℕ) → orbit_cover s b pair ≤ length (all_blocks s)
+  pub orbit : (b : List ℕ) → orbit_size s b ≤ length (all_blocks s)
 
 abbrev pub NumbersAreFew : Type 0
 NumbersAreFew = (s : Stated) → IsStated s → AreFew s
@@ -87,7 +87,7 @@ pub record AreNumbered (s : Stated) : Type 0 where
   -- the representative of a block is an orbit, stands at the block's number, and is the only orbit that is in one orbit with the block
   pub listed : (b : List ℕ) → IsBlock (point_count s) s.sizes b → In (orbits_of s) (representative s b)
   pub place : (b : List ℕ) → IsBlock (point_count s) s.sizes b → slice_get (orbits_of s) (orbit_number s b) ≡ Some (representative s b)
-  pub alone : (b c : List ℕ) → IsBlock (point_count s) s.sizes b → In (orbits_of s) c → alike s b c ≡ same_list (representative s b) c
+  pub alone : (b c : List ℕ) → IsBlock (point_count s) s.sizes b → In (orbits_of s) c → in_one_orbit s b c ≡ same_list (representative s b) c
   -- a representative is its own, and has the number of its place
   pub own : (b : List ℕ) → In (orbits_of s) b → representative s b ≡ b
   pub orbit : (i : ℕ) (b : List ℕ) → slice_get (orbits_of s) i ≡ Some b → orbit_number s b ≡ i

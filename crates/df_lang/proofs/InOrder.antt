@@ -2,8 +2,7 @@
 use Rattle.std.proofs.Common.{◌≡◌, ◌≢◌, ℕ, ◌+◌, ◌<◌, suc, false, eqb, ltb, List, [], ◌∷◌, ◌++◌, refl, ap, arith, tests}
 use Rattle.std.specs.List.{AllPairs}
 use Rattle.df_io.specs.Joined.{Each}
-use Rattle.df_lists.specs.NumberSets.{has_member, with_member}
-use Rattle.df_subsets.specs.Blocks.{Rises}
+use Rattle.df_lists.specs.NumberSets.{has_member, with_member, Rises}
 use Rattle.df_lang.proofs.EachMember.{each_from, each_append, each_so}
 
 -- each member is related to each one after it

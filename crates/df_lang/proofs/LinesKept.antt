@@ -7,12 +7,12 @@ use Rattle.df_lang.specs.declared.fault.SourceFault.{SourceFault}
 use Rattle.df_lang.specs.declared.fault.SourceFault.TheVariants.{BadWord, BadNumber, Missing}
 use Rattle.df_lang.specs.declared.fault.Needed.TheVariants as needed
 use Rattle.df_lang.specs.declared.problem.TheConstants.{NAMES_LIMIT}
-use Rattle.df_lang.specs.declared.parts.Which.{Which}
-use Rattle.df_lang.specs.declared.parts.Which.TheVariants as which
-use Rattle.df_lang.specs.declared.parts.Kind.TheVariants as kind
-use Rattle.df_lang.specs.declared.parts.Keyword.{Keyword}
-use Rattle.df_lang.specs.declared.parts.Keyword.TheVariants as keyword
-use Rattle.df_lang.specs.Problems.{Named, Stated, IsStated, IsWord, IsTarget}
+use Rattle.df_lang.specs.declared.pieces.Which.{Which}
+use Rattle.df_lang.specs.declared.pieces.Which.TheVariants as which
+use Rattle.df_lang.specs.declared.pieces.Kind.TheVariants as kind
+use Rattle.df_lang.specs.declared.pieces.Keyword.{Keyword}
+use Rattle.df_lang.specs.declared.pieces.Keyword.TheVariants as keyword
+use Rattle.df_lang.specs.Problems.{Named, Stated, IsStated, IsSubgroupName, IsTarget}
 use Rattle.df_lang.specs.Rules.{◌>>=◌, allowed, once, one_number}
 use Rattle.df_lang.specs.StandsAbove.{Above, nothing, fixed_of, version_of}
 use Rattle.df_lang.specs.Values.{factors_from}
@@ -146,7 +146,7 @@ pub nothing_kept : StandsKept nothing
 nothing_kept = inl record { bare = refl; version = tt }
 
 -- the end of a source
-which_or_all : (names : List Named) (o : Option Which) → IfSome o (IsWord names) → IsWord names (unwrap_or o which.All)
+which_or_all : (names : List Named) (o : Option Which) → IfSome o (IsSubgroupName names) → IsSubgroupName names (unwrap_or o which.All)
 which_or_all names None is = tt
 which_or_all names (Some w) is = is
 

@@ -12,11 +12,11 @@ use Rattle.df_lists.proofs.SetLaws.{set_long}
 use Rattle.df_group.specs.Elements.{IsFactor, IsShape}
 use Rattle.df_group.specs.Subgroups.{canonical_of}
 use Rattle.df_group.proofs.ExponentLaws.{exponent_high}
-use Rattle.df_lang.specs.declared.parts.Which.{Which}
-use Rattle.df_lang.specs.declared.parts.Which.TheVariants as which
-use Rattle.df_lang.specs.declared.parts.Member.{Member}
-use Rattle.df_lang.specs.declared.parts.Kind.{Kind}
-use Rattle.df_lang.specs.declared.parts.Kind.TheVariants as kind
+use Rattle.df_lang.specs.declared.pieces.Which.{Which}
+use Rattle.df_lang.specs.declared.pieces.Which.TheVariants as which
+use Rattle.df_lang.specs.declared.pieces.Member.{Member}
+use Rattle.df_lang.specs.declared.pieces.Kind.{Kind}
+use Rattle.df_lang.specs.declared.pieces.Kind.TheVariants as kind
 use Rattle.df_lang.specs.Names.{is_letter, is_name_byte}
 use Rattle.df_lang.specs.Problems.{Named, IsNamed, IsMultiplier, IsSize, IsBlock}
 use Rattle.df_lang.specs.Canonical.{element_text, point_text, which_text, number_tokens, subgroup_tokens, block_tokens, member_tokens, kind_text}

@@ -6,10 +6,10 @@ use Rattle.df_io.specs.Joined.{Each}
 use Rattle.df_group.specs.Elements.{IsShape}
 use Rattle.df_group.specs.Subgroups.{canonical_of}
 use Rattle.df_group.proofs.SubgroupLaws.{are_subgroups}
-use Rattle.df_lang.specs.declared.parts.Which.{Which}
-use Rattle.df_lang.specs.declared.parts.Which.TheVariants as which
+use Rattle.df_lang.specs.declared.pieces.Which.{Which}
+use Rattle.df_lang.specs.declared.pieces.Which.TheVariants as which
 use Rattle.df_lang.specs.Names.{is_name, is_reserved}
-use Rattle.df_lang.specs.Problems.{Named, IsNamed, IsWord, DifferInName}
+use Rattle.df_lang.specs.Problems.{Named, IsNamed, IsSubgroupName, DifferInName}
 use Rattle.df_lang.specs.Values.{place_of, name_of, subgroup_of, which_of}
 use Rattle.df_lang.specs.Canonical.{element_text, which_text}
 use Rattle.df_lang.proofs.InOrder.{InOrder}
@@ -82,7 +82,7 @@ neither false true e = absurd cc
 neither false false e = (refl, refl)
 
 -- a subgroup name
-pub which_back : (fs : List ℕ) (names : List Named) (w : Which) → Each (IsNamed fs) names → InOrder DifferInName names → IsWord names w → which_of names (which_text names w) ≡ Ok w
+pub which_back : (fs : List ℕ) (names : List Named) (w : Which) → Each (IsNamed fs) names → InOrder DifferInName names → IsSubgroupName names w → which_of names (which_text names w) ≡ Ok w
 unfolding which_of
 which_back fs names which.All each order is = refl
 which_back fs names which.Trivial each order is = refl

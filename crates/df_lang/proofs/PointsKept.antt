@@ -4,19 +4,18 @@ use Rattle.std.specs.Option.{option_or}
 use Rattle.std.specs.Cmp.{nat_eq_equiv}
 use Rattle.std.specs.List.{slice_split, AllPairs, position_or_len}
 use Rattle.std.proofs.lemmas.List.Sums.{fails_before_first}
-use Rattle.df_lists.specs.NumberSets.{has_member, with_member}
+use Rattle.df_lists.specs.NumberSets.{has_member, with_member, Rises}
 use Rattle.df_group.specs.Elements.{order_of, number, IsElement}
 use Rattle.df_group.specs.Subgroups.{generated}
 use Rattle.df_group.proofs.ElementLaws.{number_within}
-use Rattle.df_subsets.specs.Blocks.{Rises}
-use Rattle.df_subsets.proofs.BlockLaws.{Rises-more, block_is_set}
+use Rattle.df_lists.proofs.RisingLists.{Rises-more}
 use Rattle.df_lang.specs.declared.fault.SourceFault.{SourceFault}
 use Rattle.df_lang.specs.declared.fault.SourceFault.TheVariants.{BadWord, BadElement, UnknownName, NameTaken, PointTwice, BlockSize, TargetRange}
-use Rattle.df_lang.specs.declared.parts.Which.{Which}
-use Rattle.df_lang.specs.declared.parts.Which.TheVariants as which
-use Rattle.df_lang.specs.declared.parts.Inside.{Inside}
+use Rattle.df_lang.specs.declared.pieces.Which.{Which}
+use Rattle.df_lang.specs.declared.pieces.Which.TheVariants as which
+use Rattle.df_lang.specs.declared.pieces.Inside.{Inside}
 use Rattle.df_lang.specs.Names.{is_name, is_reserved}
-use Rattle.df_lang.specs.Problems.{Named, IsNamed, DifferInName, IsWord, IsInside, IsTarget, IsBlock}
+use Rattle.df_lang.specs.Problems.{Named, IsNamed, DifferInName, IsSubgroupName, IsInside, IsTarget, IsBlock}
 use Rattle.df_lang.specs.Rules.{◌>>=◌, ◌>>?◌, must, allowed, next, end, value_of, number_in}
 use Rattle.df_lang.specs.Values.{is_comma, residues_of, element_of, fixed_point, point_of, points_from, place_of, is_taken, name_of, elements_from, subgroup_of, which_of, shift_of, target_of, inside_of}
 use Rattle.df_lang.proofs.RulesKept.{bind_kept, must_kept, allowed_kept, there, next_kept, end_kept, number_kept}
@@ -81,7 +80,7 @@ pub points_kept : (fs : List ℕ) (fixed : ℕ) (sizes points : List ℕ) (token
 unfolding points_from
 points_kept fs fixed sizes points [] block rise h =
     let is = must_kept (has_member sizes (length points)) BlockSize points block h in
-    subst (IsBlock (order_of fs + fixed) sizes) is.1 record { set = block_is_set (order_of fs + fixed) points rise; size = is.0 }
+    subst (IsBlock (order_of fs + fixed) sizes) is.1 record { set = rise; size = is.0 }
 points_kept fs fixed sizes points (token ∷ tokens) block rise h =
     let p = bind_kept (ok_or (point_of fs fixed token) BadElement) (λ p. must (not (has_member points p)) PointTwice (with_member p points) >>= λ more. points_from fs fixed sizes more tokens) block h in
     let low = point_kept fs fixed token p.0 (there (point_of fs fixed token) BadElement p.0 p.1) in
@@ -132,24 +131,24 @@ subgroup_kept fs names tokens named h =
     subst (λ (n : Named). IsNamed fs n × (place_of names n.0 ≡ None)) is (record { name = new.0; free = new.1; subgroup = (es.0, refl) }, new.2)
 
 -- a subgroup name
-which_of_place : (names : List Named) (o : Option ℕ) (w : Which) → ((i : ℕ) → o ≡ Some i → i < length names) → ok_or (option_map which.Named o) UnknownName ≡ Ok w → IsWord names w
+which_of_place : (names : List Named) (o : Option ℕ) (w : Which) → ((i : ℕ) → o ≡ Some i → i < length names) → ok_or (option_map which.Named o) UnknownName ≡ Ok w → IsSubgroupName names w
 which_of_place names None w low h = absurd cc
-which_of_place names (Some i) w low h = let is : which.Named i ≡ w = cc in subst (IsWord names) is (low i refl)
+which_of_place names (Some i) w low h = let is : which.Named i ≡ w = cc in subst (IsSubgroupName names) is (low i refl)
 
-pub which_kept : (names : List Named) (token : List ℕ) (w : Which) → which_of names token ≡ Ok w → IsWord names w
+pub which_kept : (names : List Named) (token : List ℕ) (w : Which) → which_of names token ≡ Ok w → IsSubgroupName names w
 unfolding which_of
 which_kept names token w h = by (bytes_eq token (codes "all")) (bytes_eq token (codes "none")) h where
-  by : (u v : Bool) → (if u then Ok which.All else (if v then Ok which.Trivial else ok_or (option_map which.Named (place_of names token)) UnknownName)) ≡ Ok w → IsWord names w
-  by true v h = let is : which.All ≡ w = cc in subst (IsWord names) is tt
-  by false true h = let is : which.Trivial ≡ w = cc in subst (IsWord names) is tt
+  by : (u v : Bool) → (if u then Ok which.All else (if v then Ok which.Trivial else ok_or (option_map which.Named (place_of names token)) UnknownName)) ≡ Ok w → IsSubgroupName names w
+  by true v h = let is : which.All ≡ w = cc in subst (IsSubgroupName names) is tt
+  by false true h = let is : which.Trivial ≡ w = cc in subst (IsSubgroupName names) is tt
   by false false h = which_of_place names (place_of names token) w (placed names token) h
 
-pub shift_kept : (names : List Named) (tokens : List (List ℕ)) (w : Which) → shift_of names tokens ≡ Ok w → IsWord names w
+pub shift_kept : (names : List Named) (tokens : List (List ℕ)) (w : Which) → shift_of names tokens ≡ Ok w → IsSubgroupName names w
 unfolding shift_of
 shift_kept names tokens w h =
     let first = next_kept tokens (λ first rest. which_of names first >>= λ w. end rest w) w h in
     let read = bind_kept (which_of names first.0) (λ w. end first.1 w) w first.2 in
-    subst (IsWord names) (end_kept first.1 read.0 w read.2) (which_kept names first.0 read.0 read.1)
+    subst (IsSubgroupName names) (end_kept first.1 read.0 w read.2) (which_kept names first.0 read.0 read.1)
 
 pub inside_kept : (names : List Named) (tokens : List (List ℕ)) (i : Inside) → inside_of names tokens ≡ Ok i → IsInside names i
 unfolding inside_of

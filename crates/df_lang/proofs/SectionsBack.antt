@@ -1,15 +1,14 @@
 -- The sections of the canonical lines, read back one after the other.
 use Rattle.std.proofs.Common.{◌≡◌, ◌≢◌, ℕ, ◌+◌, ◌<◌, ◌≤◌, min, true, false, eqb, ltb, List, [], ◌∷◌, ◌++◌, length, map, Option, Some, None, IfSome, Ok, decimal, codes, inl, inr, refl, sym, ap, ◌∙◌, subst, arith, tests, append-nil, append_assoc, length-append}
 use Rattle.df_io.specs.Joined.{Each}
-use Rattle.df_subsets.proofs.BlockLaws.{set_is_block}
 use Rattle.df_group.specs.Elements.{order_of}
 use Rattle.df_group.specs.Subgroups.{exponent_of, is_unit}
 use Rattle.df_group.proofs.ExponentLaws.{exponent_high}
 use Rattle.df_lang.specs.declared.fault.SourceFault.TheVariants.{TargetRange, SizeRange}
-use Rattle.df_lang.specs.declared.parts.Inside.{Inside}
-use Rattle.df_lang.specs.declared.parts.Member.{Member}
-use Rattle.df_lang.specs.declared.parts.Kind.{Kind}
-use Rattle.df_lang.specs.declared.parts.Kind.TheVariants as kind
+use Rattle.df_lang.specs.declared.pieces.Inside.{Inside}
+use Rattle.df_lang.specs.declared.pieces.Member.{Member}
+use Rattle.df_lang.specs.declared.pieces.Kind.{Kind}
+use Rattle.df_lang.specs.declared.pieces.Kind.TheVariants as kind
 use Rattle.df_lang.specs.declared.canonical.Section.TheVariants as section
 use Rattle.df_lang.specs.Problems.{Stated, Named, IsStated, IsNamed, IsInside, IsMultiplier, IsSize, IsBlock, DifferInName, point_count}
 use Rattle.df_lang.specs.Rules.{◌>>=◌}
@@ -90,7 +89,7 @@ module _ (s : Stated) (is : IsStated s) where
 
   -- the lines `base` and `short`
   block_back : (b : List ℕ) → IsBlock (point_count s) s.sizes b → points_from s.group s.fixed s.sizes [] (map (point_text s.group) b) ≡ Ok b
-  block_back b h = points_back s.group s.fixed s.sizes is.shape (omega (arith, is.fixed)) b (set_below (point_count s) b h.set) (order_from_rises 0 (point_count s) b (set_is_block (point_count s) b h.set)) h.size
+  block_back b h = points_back s.group s.fixed s.sizes is.shape (omega (arith, is.fixed)) b (set_below (point_count s) b h.set) (order_from_rises 0 (point_count s) b h.set) h.size
 
   member_step : (kept : List Member) (k : Kind) (b : List ℕ) → length kept < 4096 → IsBlock (point_count s) s.sizes b
       → step (with_family s kept) (member_tokens s.group record { kind = k; block = b }) ≡ Ok (with_family s (kept ++ record { kind = k; block = b } ∷ []))
@@ -174,7 +173,7 @@ module _ (s : Stated) (is : IsStated s) where
   unfolding statements_of statements_in
   statements_after =
       let IsHere : Member → Type 0 = λ m. IsBlock (point_count s) s.sizes m.block in
-      let rises = order_from_rises 0 17 s.sizes (set_is_block 17 s.sizes is.sizes_rise) in
+      let rises = order_from_rises 0 17 s.sizes is.sizes_rise in
       let forbids : List (List (List ℕ)) = map (block_tokens s.group (codes "forbid")) s.forbidden ++ [] in
       let requires : List (List (List ℕ)) = map (block_tokens s.group (codes "require")) s.required ++ forbids in
       let family : List (List (List ℕ)) = map (member_tokens s.group) s.family ++ requires in

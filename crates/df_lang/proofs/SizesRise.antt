@@ -1,7 +1,6 @@
 -- The sizes of a problem: at most fifteen, since they rise from 2 to 16.
 use Rattle.std.proofs.Common.{◌≡◌, ℕ, ◌+◌, ◌≤◌, List, [], ◌∷◌, length, arith, Ok, refl, sym}
-use Rattle.df_lists.specs.NumberSets.{with_member}
-use Rattle.df_subsets.specs.Blocks.{Rises}
+use Rattle.df_lists.specs.NumberSets.{with_member, Rises}
 use Rattle.df_lang.specs.declared.fault.SourceFault.TheVariants.{SizeRange}
 use Rattle.df_lang.specs.Rules.{number_in}
 use Rattle.df_lang.specs.Values.{sizes_from}

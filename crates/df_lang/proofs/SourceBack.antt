@@ -11,16 +11,16 @@ use Rattle.df_group.specs.Elements.{order_of, residues, IsFactor, IsShape}
 use Rattle.df_group.specs.Subgroups.{canonical_of}
 use Rattle.df_group.proofs.ExponentLaws.{exponent_high}
 use Rattle.df_lang.specs.declared.fault.SourceFault.{SourceFault}
-use Rattle.df_lang.specs.declared.parts.Which.{Which}
-use Rattle.df_lang.specs.declared.parts.Which.TheVariants as which
-use Rattle.df_lang.specs.declared.parts.Inside.{Inside}
-use Rattle.df_lang.specs.declared.parts.Member.{Member}
-use Rattle.df_lang.specs.declared.parts.Kind.{Kind}
-use Rattle.df_lang.specs.declared.parts.Kind.TheVariants as kind
+use Rattle.df_lang.specs.declared.pieces.Which.{Which}
+use Rattle.df_lang.specs.declared.pieces.Which.TheVariants as which
+use Rattle.df_lang.specs.declared.pieces.Inside.{Inside}
+use Rattle.df_lang.specs.declared.pieces.Member.{Member}
+use Rattle.df_lang.specs.declared.pieces.Kind.{Kind}
+use Rattle.df_lang.specs.declared.pieces.Kind.TheVariants as kind
 use Rattle.df_lang.specs.declared.canonical.Section.{Section}
 use Rattle.df_lang.specs.declared.canonical.Section.TheVariants as section
 use Rattle.df_lang.specs.Names.{is_letter, is_name_byte}
-use Rattle.df_lang.specs.Problems.{Stated, Named, IsStated, IsNamed, IsWord, IsInside, IsMultiplier, IsSize, IsBlock, point_count}
+use Rattle.df_lang.specs.Problems.{Stated, Named, IsStated, IsNamed, IsSubgroupName, IsInside, IsMultiplier, IsSize, IsBlock, point_count}
 use Rattle.df_lang.specs.Rules.{◌>>=◌}
 use Rattle.df_lang.specs.StandsAbove.{Above, nothing}
 use Rattle.df_lang.specs.Statements.{step}
@@ -129,7 +129,7 @@ named_inked fs [] i h each = absurd (omega arith)
 named_inked fs (n ∷ ns) zero h each = name_inked fs n each.0
 named_inked fs (n ∷ ns) (suc i) h each = named_inked fs ns i (omega arith) each.1
 
-which_inked : (fs : List ℕ) (names : List Named) (w : Which) → Each (IsNamed fs) names → IsWord names w → IsInked (which_text names w)
+which_inked : (fs : List ℕ) (names : List Named) (w : Which) → Each (IsNamed fs) names → IsSubgroupName names w → IsInked (which_text names w)
 which_inked fs names which.All each is = keyword_inked (codes "all") refl refl
 which_inked fs names which.Trivial each is = keyword_inked (codes "none") refl refl
 which_inked fs names (which.Named i) each is = named_inked fs names i is each

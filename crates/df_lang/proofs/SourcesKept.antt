@@ -6,11 +6,11 @@ use Rattle.df_group.specs.Elements.{order_of}
 use Rattle.df_group.specs.Subgroups.{exponent_of}
 use Rattle.df_lang.specs.declared.fault.SourceFault.{SourceFault}
 use Rattle.df_lang.specs.declared.fault.SourceFault.TheVariants.{BadWord, BadNumber, FixedRange, TargetRange}
-use Rattle.df_lang.specs.declared.parts.Kind.{Kind}
-use Rattle.df_lang.specs.declared.parts.Kind.TheVariants as kind
-use Rattle.df_lang.specs.declared.parts.Which.TheVariants as which
-use Rattle.df_lang.specs.declared.parts.Keyword.{Keyword}
-use Rattle.df_lang.specs.declared.parts.Keyword.TheVariants as keyword
+use Rattle.df_lang.specs.declared.pieces.Kind.{Kind}
+use Rattle.df_lang.specs.declared.pieces.Kind.TheVariants as kind
+use Rattle.df_lang.specs.declared.pieces.Which.TheVariants as which
+use Rattle.df_lang.specs.declared.pieces.Keyword.{Keyword}
+use Rattle.df_lang.specs.declared.pieces.Keyword.TheVariants as keyword
 use Rattle.df_lang.specs.Problems.{Named, Stated, IsStated}
 use Rattle.df_lang.specs.Rules.{◌>>=◌, allowed, once, one_number}
 use Rattle.df_lang.specs.StandsAbove.{Above, nothing, group_of, sizes_of, lambda_of, fixed_of, version_of}

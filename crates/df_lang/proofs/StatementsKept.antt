@@ -8,16 +8,16 @@ use Rattle.std.proofs.lemmas.List.Quantifiers.{all_pairs_push}
 use Rattle.df_group.specs.Elements.{order_of, IsShape}
 use Rattle.df_group.specs.Subgroups.{exponent_of}
 use Rattle.df_group.proofs.ExponentLaws.{exponent_low}
-use Rattle.df_subsets.proofs.BlockLaws.{Rises-wider, block_is_set, set_is_block}
+use Rattle.df_lists.proofs.RisingLists.{Rises-wider}
 use Rattle.df_lang.specs.declared.fault.SourceFault.{SourceFault}
 use Rattle.df_lang.specs.declared.fault.SourceFault.TheVariants.{BadWord, FixedRange, TargetRange, TooManyBlocks, Missing}
 use Rattle.df_lang.specs.declared.fault.Needed.TheVariants as needed
-use Rattle.df_lang.specs.declared.parts.Which.{Which}
-use Rattle.df_lang.specs.declared.parts.Which.TheVariants as which
-use Rattle.df_lang.specs.declared.parts.Inside.{Inside}
-use Rattle.df_lang.specs.declared.parts.Kind.{Kind}
-use Rattle.df_lang.specs.declared.parts.Member.{Member}
-use Rattle.df_lang.specs.Problems.{Named, IsNamed, DifferInName, IsWord, IsInside, IsSize, IsTarget, IsBlock}
+use Rattle.df_lang.specs.declared.pieces.Which.{Which}
+use Rattle.df_lang.specs.declared.pieces.Which.TheVariants as which
+use Rattle.df_lang.specs.declared.pieces.Inside.{Inside}
+use Rattle.df_lang.specs.declared.pieces.Kind.{Kind}
+use Rattle.df_lang.specs.declared.pieces.Member.{Member}
+use Rattle.df_lang.specs.Problems.{Named, IsNamed, DifferInName, IsSubgroupName, IsInside, IsSize, IsTarget, IsBlock}
 use Rattle.df_lang.specs.Rules.{◌>>=◌, allowed, once, one_number}
 use Rattle.df_lang.specs.StandsAbove.{Above, group_of, sizes_of, fixed_of, version_of}
 use Rattle.df_lang.specs.Values.{place_of, mults_from, subgroup_of, shift_of, sizes_read, inside_of, points_from}
@@ -45,7 +45,7 @@ sizes_wider version v w (Some ks) h kept =
     record { some = kept.some; each = λ i d l. let is = kept.each i d l in record { low = is.low; high = is.high; fits = omega (arith, is.fits) }; rise = kept.rise; one = kept.one }
 
 block_wider : (v w : ℕ) (ks block : List ℕ) → v ≤ w → IsBlock v ks block → IsBlock w ks block
-block_wider v w ks block h is = record { set = block_is_set w block (Rises-wider 0 0 v w block (omega arith) h (set_is_block v block is.set)); size = is.size }
+block_wider v w ks block h is = record { set = (Rises-wider 0 0 v w block (omega arith) h is.set); size = is.size }
 
 blocks_wider : (version v w : ℕ) (ks : List ℕ) (ms : List Member) (rs ns : List (List ℕ)) → v ≤ w → BlocksKept version v ks ms rs ns → BlocksKept version w ks ms rs ns
 blocks_wider version v w ks ms rs ns h kept = record {
@@ -74,12 +74,12 @@ blocks_sized version v ks ms rs ns kept = record {
 }
 
 -- more names
-which_wider : (names : List Named) (n : Named) (w : Which) → IsWord names w → IsWord (names ++ n ∷ []) w
+which_wider : (names : List Named) (n : Named) (w : Which) → IsSubgroupName names w → IsSubgroupName (names ++ n ∷ []) w
 which_wider names n which.All is = tt
 which_wider names n which.Trivial is = tt
 which_wider names n (which.Named i) is = omega (arith, length_push names n)
 
-shift_wider : (names : List Named) (n : Named) (o : Option Which) → IfSome o (IsWord names) → IfSome o (IsWord (names ++ n ∷ []))
+shift_wider : (names : List Named) (n : Named) (o : Option Which) → IfSome o (IsSubgroupName names) → IfSome o (IsSubgroupName (names ++ n ∷ []))
 shift_wider names n None is = tt
 shift_wider names n (Some w) is = which_wider names n w is
 

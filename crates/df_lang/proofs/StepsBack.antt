@@ -3,7 +3,7 @@ use Rattle.std.proofs.Common.{◌≡◌, ℕ, ◌-◌, min, List, [], ◌∷◌,
 use Rattle.df_group.specs.Elements.{order_of}
 use Rattle.df_lang.specs.declared.fault.SourceFault.{SourceFault}
 use Rattle.df_lang.specs.declared.fault.SourceFault.TheVariants.{FixedRange, TargetRange}
-use Rattle.df_lang.specs.declared.parts.Member.{Member}
+use Rattle.df_lang.specs.declared.pieces.Member.{Member}
 use Rattle.df_lang.specs.Problems.{Stated, Named, IsStated, IsNamed, DifferInName}
 use Rattle.df_lang.specs.Rules.{◌>>=◌, one_number}
 use Rattle.df_lang.specs.StandsAbove.{Above, nothing}

@@ -5,19 +5,18 @@ use Rattle.std.proofs.lemmas.List.{length_push}
 use Rattle.std.proofs.lemmas.List.Elements.{All-push}
 use Rattle.std.proofs.lemmas.List.Quantifiers.{all_pairs_push}
 use Rattle.std.proofs.lemmas.Map.Keys.{apart_from_distinct}
-use Rattle.df_lists.specs.NumberSets.{has_member, with_member, IsSet}
+use Rattle.df_lists.specs.NumberSets.{has_member, with_member, IsSet, Rises}
 use Rattle.df_group.specs.Elements.{order_of, IsFactor, IsShape}
 use Rattle.df_group.specs.Subgroups.{exponent_of, is_unit, generated, IsSubgroup}
 use Rattle.df_group.proofs.UnitLaws.{unit_reduced}
-use Rattle.df_subsets.specs.Blocks.{Rises}
-use Rattle.df_subsets.proofs.BlockLaws.{Rises-more, Rises-wider, block_is_set}
+use Rattle.df_lists.proofs.RisingLists.{Rises-more, Rises-wider}
 use Rattle.df_lang.specs.declared.fault.SourceFault.{SourceFault}
 use Rattle.df_lang.specs.declared.fault.SourceFault.TheVariants.{BadWord, BadElement, UnknownName, NameTaken, NotUnit, PointTwice, BlockSize, GroupRange, SizeRange, TargetRange}
-use Rattle.df_lang.specs.declared.parts.Which.{Which}
-use Rattle.df_lang.specs.declared.parts.Which.TheVariants as which
-use Rattle.df_lang.specs.declared.parts.Inside.{Inside}
+use Rattle.df_lang.specs.declared.pieces.Which.{Which}
+use Rattle.df_lang.specs.declared.pieces.Which.TheVariants as which
+use Rattle.df_lang.specs.declared.pieces.Inside.{Inside}
 use Rattle.df_lang.specs.Names.{is_name, is_reserved}
-use Rattle.df_lang.specs.Problems.{Named, IsNamed, DifferInName, IsWord, IsInside, IsMultiplier, IsSize, IsTarget, IsBlock}
+use Rattle.df_lang.specs.Problems.{Named, IsNamed, DifferInName, IsSubgroupName, IsInside, IsMultiplier, IsSize, IsTarget, IsBlock}
 use Rattle.df_lang.specs.Rules.{◌>>=◌, must, allowed, next, end, number_of, number_in}
 use Rattle.df_lang.specs.Values.{fits, factors_from, kept_once, mults_from, sizes_from, sizes_read, point_of, points_from, place_of, is_taken, name_of, elements_from, subgroup_of, which_of, shift_of, target_of, inside_of}
 use Rattle.df_lang.specs.DraftRules.{MultsKept, SizesKept}
@@ -119,6 +118,6 @@ sizes_kept version v most tokens ks few fit h =
     record {
       some = are.0.some;
       each = λ i d l. let e = rises_each 2 (most + 1) ks are.0.rise i d l in record { low = e.0; high = omega (arith, e.1); fits = omega (arith, e.1) };
-      rise = block_is_set 17 ks (Rises-wider 0 2 (most + 1) 17 ks (omega arith) (omega arith) are.0.rise);
+      rise = (Rises-wider 0 2 (most + 1) 17 ks (omega arith) (omega arith) are.0.rise);
       one = are.1;
     }

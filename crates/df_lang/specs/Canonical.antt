@@ -4,12 +4,12 @@ use Rattle.std.specs.List.{flat_map, join_with_byte}
 use Rattle.df_io.specs.Joined.{spaced}
 use Rattle.df_group.specs.Elements.{order_of, residues}
 use Rattle.df_group.specs.Subgroups.{canonical_of}
-use Rattle.df_lang.specs.declared.parts.Which.{Which}
-use Rattle.df_lang.specs.declared.parts.Which.TheVariants as which
-use Rattle.df_lang.specs.declared.parts.Kind.{Kind}
-use Rattle.df_lang.specs.declared.parts.Kind.TheVariants as kind
-use Rattle.df_lang.specs.declared.parts.Inside.{Inside}
-use Rattle.df_lang.specs.declared.parts.Member.{Member}
+use Rattle.df_lang.specs.declared.pieces.Which.{Which}
+use Rattle.df_lang.specs.declared.pieces.Which.TheVariants as which
+use Rattle.df_lang.specs.declared.pieces.Kind.{Kind}
+use Rattle.df_lang.specs.declared.pieces.Kind.TheVariants as kind
+use Rattle.df_lang.specs.declared.pieces.Inside.{Inside}
+use Rattle.df_lang.specs.declared.pieces.Member.{Member}
 use Rattle.df_lang.specs.declared.canonical.Section.{Section}
 use Rattle.df_lang.specs.declared.canonical.Section.TheVariants as section
 use Rattle.df_lang.specs.Problems.{Stated, Named}

@@ -3,9 +3,9 @@ use Rattle.std.specs.Prelude.{◌≡◌, ◌≢◌, ℕ, ◌+◌, ◌<◌, ◌�
 use Rattle.std.specs.List.{AllPairs}
 use Rattle.df_lists.specs.NumberSets.{IsSet}
 use Rattle.df_group.specs.Elements.{order_of, IsShape}
-use Rattle.df_lang.specs.declared.parts.Member.{Member}
+use Rattle.df_lang.specs.declared.pieces.Member.{Member}
 use Rattle.df_lang.specs.declared.problem.TheConstants.{MOST_BLOCKS}
-use Rattle.df_lang.specs.Problems.{Named, IsNamed, DifferInName, IsWord, IsInside, IsMultiplier, IsSize, IsTarget, IsBlock}
+use Rattle.df_lang.specs.Problems.{Named, IsNamed, DifferInName, IsSubgroupName, IsInside, IsMultiplier, IsSize, IsTarget, IsBlock}
 use Rattle.df_lang.specs.StandsAbove.{Above, nothing, fixed_of, version_of}
 
 abbrev pub shape_above : Above → List ℕ
@@ -55,7 +55,7 @@ pub record HeadKept (version : Option ℕ) (group : Option (List ℕ)) (fixed : 
 pub record Keeps (a : Above) : Type 0 where
   pub head : HeadKept a.version a.group a.fixed
   pub names : NamesKept (shape_above a) a.names
-  pub shift : IfSome a.shift (IsWord a.names)
+  pub shift : IfSome a.shift (IsSubgroupName a.names)
   pub mults : IfSome a.mults (MultsKept (shape_above a))
   pub sizes : IfSome a.sizes (SizesKept (version_of a) (points_above a))
   pub lambda : IfSome a.lambda IsTarget

@@ -4,10 +4,10 @@ use Rattle.std.specs.List.{AllPairs}
 use Rattle.df_lists.specs.NumberSets.{has_member, IsSet}
 use Rattle.df_group.specs.Elements.{order_of, IsShape}
 use Rattle.df_group.specs.Subgroups.{exponent_of, is_unit, IsSubgroup}
-use Rattle.df_lang.specs.declared.parts.Which.{Which}
-use Rattle.df_lang.specs.declared.parts.Which.TheVariants as which
-use Rattle.df_lang.specs.declared.parts.Inside.{Inside}
-use Rattle.df_lang.specs.declared.parts.Member.{Member}
+use Rattle.df_lang.specs.declared.pieces.Which.{Which}
+use Rattle.df_lang.specs.declared.pieces.Which.TheVariants as which
+use Rattle.df_lang.specs.declared.pieces.Inside.{Inside}
+use Rattle.df_lang.specs.declared.pieces.Member.{Member}
 use Rattle.df_lang.specs.declared.problem.TheConstants.{MOST_TARGET, MOST_BLOCKS, NAMES_LIMIT}
 use Rattle.df_lang.specs.Names.{is_name, is_reserved}
 
@@ -48,13 +48,13 @@ abbrev pub DifferInName : Named → Named → Type 0
 DifferInName m n = m.0 ≢ n.0
 
 -- a subgroup name names a subgroup that is there
-abbrev pub IsWord : List Named → Which → Type 0
-IsWord names which.All = ⊤
-IsWord names which.Trivial = ⊤
-IsWord names (which.Named i) = i < length names
+abbrev pub IsSubgroupName : List Named → Which → Type 0
+IsSubgroupName names which.All = ⊤
+IsSubgroupName names which.Trivial = ⊤
+IsSubgroupName names (which.Named i) = i < length names
 
 pub record IsInside (names : List Named) (inside : Inside) : Type 0 where
-  pub subgroup : IsWord names inside.subgroup
+  pub subgroup : IsSubgroupName names inside.subgroup
   pub target : IsTarget inside.target
 
 -- a multiplier: below the exponent and prime to it
@@ -87,7 +87,7 @@ pub record IsStated (p : Stated) : Type 0 where
   pub names : All (IsNamed p.group) p.names
   pub apart : AllPairs DifferInName p.names
   pub few_names : length p.names < NAMES_LIMIT
-  pub shift : IsWord p.names p.shift
+  pub shift : IsSubgroupName p.names p.shift
   pub mults : All (IsMultiplier p.group) p.mults
   pub mults_once : AllPairs (λ m n. m ≢ n) p.mults
   pub some_size : 0 < length p.sizes

@@ -3,7 +3,7 @@ use Rattle.std.specs.Prelude.{ℕ, ◌+◌, List, [], ◌∷◌, map, unwrap_or,
 use Rattle.df_io.specs.Lines.{lines_of, tokens_of}
 use Rattle.df_lang.specs.declared.fault.SourceFault.{SourceFault}
 use Rattle.df_lang.specs.declared.fault.SourceError.{SourceError}
-use Rattle.df_lang.specs.declared.parts.Which.TheVariants as which
+use Rattle.df_lang.specs.declared.pieces.Which.TheVariants as which
 use Rattle.df_lang.specs.Rules.{◌>>=◌}
 use Rattle.df_lang.specs.StandsAbove.{Above, nothing, group_of, sizes_of, lambda_of, fixed_of, version_of}
 use Rattle.df_lang.specs.Problems.{Stated}

@@ -3,9 +3,9 @@ use Rattle.std.specs.Prelude.{ℕ, List, [], Option, None, Result, unwrap_or, ok
 use Rattle.df_lang.specs.declared.fault.SourceFault.{SourceFault}
 use Rattle.df_lang.specs.declared.fault.SourceFault.TheVariants.{Missing}
 use Rattle.df_lang.specs.declared.fault.Needed.TheVariants as needed
-use Rattle.df_lang.specs.declared.parts.Which.{Which}
-use Rattle.df_lang.specs.declared.parts.Inside.{Inside}
-use Rattle.df_lang.specs.declared.parts.Member.{Member}
+use Rattle.df_lang.specs.declared.pieces.Which.{Which}
+use Rattle.df_lang.specs.declared.pieces.Inside.{Inside}
+use Rattle.df_lang.specs.declared.pieces.Member.{Member}
 use Rattle.df_lang.specs.Problems.{Named}
 
 -- the pieces of a problem that are stated so far; no version stands above the first line with tokens

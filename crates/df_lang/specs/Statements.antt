@@ -4,10 +4,10 @@ use Rattle.df_group.specs.Elements.{order_of}
 use Rattle.df_group.specs.Subgroups.{exponent_of}
 use Rattle.df_lang.specs.declared.fault.SourceFault.{SourceFault}
 use Rattle.df_lang.specs.declared.fault.SourceFault.TheVariants.{BadWord, BadNumber, FixedRange, TargetRange, TooManyBlocks}
-use Rattle.df_lang.specs.declared.parts.Kind.{Kind}
-use Rattle.df_lang.specs.declared.parts.Kind.TheVariants as kind
-use Rattle.df_lang.specs.declared.parts.Keyword.{Keyword}
-use Rattle.df_lang.specs.declared.parts.Keyword.TheVariants as keyword
+use Rattle.df_lang.specs.declared.pieces.Kind.{Kind}
+use Rattle.df_lang.specs.declared.pieces.Kind.TheVariants as kind
+use Rattle.df_lang.specs.declared.pieces.Keyword.{Keyword}
+use Rattle.df_lang.specs.declared.pieces.Keyword.TheVariants as keyword
 use Rattle.df_lang.specs.declared.problem.TheConstants.{MOST_TARGET, MOST_BLOCKS}
 use Rattle.df_lang.specs.Rules.{◌>>=◌, allowed, once, one_number}
 use Rattle.df_lang.specs.StandsAbove.{Above, group_of, sizes_of, fixed_of, version_of}

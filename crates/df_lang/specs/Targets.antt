@@ -3,9 +3,9 @@ use Rattle.std.specs.Prelude.{ℕ, List, [], ◌∷◌, get_or, Bool, ◌&&◌, 
 use Rattle.std.specs.List.{range_with_len}
 use Rattle.df_group.specs.Elements.{order_of}
 use Rattle.df_group.specs.Subgroups.{same_coset}
-use Rattle.df_lang.specs.declared.parts.Which.{Which}
-use Rattle.df_lang.specs.declared.parts.Which.TheVariants as which
-use Rattle.df_lang.specs.declared.parts.Inside.{Inside}
+use Rattle.df_lang.specs.declared.pieces.Which.{Which}
+use Rattle.df_lang.specs.declared.pieces.Which.TheVariants as which
+use Rattle.df_lang.specs.declared.pieces.Inside.{Inside}
 use Rattle.df_lang.specs.Problems.{Stated}
 
 -- whether a point is an element of the group, and not a fixed point

@@ -7,9 +7,9 @@ use Rattle.df_group.specs.Elements.{order_of, number}
 use Rattle.df_group.specs.Subgroups.{is_unit, generated}
 use Rattle.df_lang.specs.declared.fault.SourceFault.{SourceFault}
 use Rattle.df_lang.specs.declared.fault.SourceFault.TheVariants.{BadWord, BadElement, UnknownName, NameTaken, NotUnit, PointTwice, BlockSize, GroupRange, SizeRange, TargetRange}
-use Rattle.df_lang.specs.declared.parts.Which.{Which}
-use Rattle.df_lang.specs.declared.parts.Which.TheVariants as which
-use Rattle.df_lang.specs.declared.parts.Inside.{Inside}
+use Rattle.df_lang.specs.declared.pieces.Which.{Which}
+use Rattle.df_lang.specs.declared.pieces.Which.TheVariants as which
+use Rattle.df_lang.specs.declared.pieces.Inside.{Inside}
 use Rattle.df_lang.specs.declared.problem.TheConstants.{MOST_TARGET}
 use Rattle.df_lang.specs.Names.{is_name, is_reserved}
 use Rattle.df_lang.specs.Problems.{Named}

@@ -7,7 +7,7 @@ ghost use Rattle.df_lang.specs.Statements.{block_of, member_line, require_line, 
 use crate::blocks::block;
 use crate::draft::Draft;
 use crate::fault::{Needed, SourceFault, Stop};
-use crate::parts::{Kind, Member};
+use crate::pieces::{Kind, Member};
 use crate::problem::MOST_BLOCKS;
 use df_io::Tokens;
 use df_subsets::Block;

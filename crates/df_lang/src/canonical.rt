@@ -6,7 +6,7 @@ ghost use Rattle.df_io.specs.Joined.{spaced};
 ghost use Rattle.df_lang.specs.Canonical.{canonical, statements_in, subgroup_tokens};
 
 use crate::problem::{NAMES_LIMIT, Problem};
-use crate::put::{
+use crate::print_statements::{
     put_block_statement, put_inside, put_member, put_number_statement, put_numbers_statement,
     put_shift, put_sizes_statement, put_subgroup,
 };

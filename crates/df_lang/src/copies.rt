@@ -6,7 +6,7 @@ ghost use Rattle.df_lang.specs.Stored.{named};
 
 use crate::OutOfMemory;
 use crate::names::name;
-use crate::parts::Name;
+use crate::pieces::Name;
 use crate::problem::Problem;
 use arrayvec::ArrayVec;
 use df_group::Subgroup;
@@ -24,8 +24,8 @@ impl Problem {
             fixed: self.fixed,
             names: copied_names(alloc, &self.names)?,
             shift: self.shift,
-            mults: copied_numbers(self.mults.as_slice()),
-            sizes: copied_sizes(self.sizes.as_slice()),
+            mults: copied_items(self.mults.as_slice()),
+            sizes: copied_items(self.sizes.as_slice()),
             lambda: self.lambda,
             inside: self.inside,
             hole: self.hole,
@@ -36,29 +36,18 @@ impl Problem {
     }
 }
 
-fn copied_numbers(mults: &[u16]) -> ArrayVec<u16, 128>
-    requires { length mults.now ≤ 128 }
-    ensures { result.items ≡ mults.now }
+// The same items in a list of its own.
+fn copied_items<T: Copy + Default, const N: usize>(items: &[T]) -> ArrayVec<T, N>
+    requires { length items.now ≤ N }
+    ensures { result.items ≡ items.now }
 {
     let mut copy = ArrayVec::new();
-    match copy.try_extend_from_slice(mults) {
+    match copy.try_extend_from_slice(items) {
         Ok(()) => copy,
         Err(_) => unreachable!(),
     }
 }
 
-fn copied_sizes(sizes: &[u8]) -> ArrayVec<u8, 15>
-    requires { length sizes.now ≤ 15 }
-    ensures { result.items ≡ sizes.now }
-{
-    let mut copy = ArrayVec::new();
-    match copy.try_extend_from_slice(sizes) {
-        Ok(()) => copy,
-        Err(_) => unreachable!(),
-    }
-}
-
-// The table of names, no two of which are the same, once more.
 fn copied_names(
     alloc: Global,
     names: &IndexMap<Name, Subgroup>,

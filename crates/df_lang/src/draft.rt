@@ -5,7 +5,7 @@ ghost use Rattle.df_lang.specs.declared.problem.TheConstants.{NAMES_LIMIT};
 ghost use Rattle.df_lang.specs.Problems.{Named};
 ghost use Rattle.df_lang.specs.Stored.{named};
 
-use crate::parts::{Inside, Member, Name, Which};
+use crate::pieces::{Inside, Member, Name, Which};
 use arrayvec::ArrayVec;
 use df_group::{Shape, Subgroup};
 use df_subsets::Block;

@@ -2,7 +2,7 @@
 ghost use Rattle.std.specs.Prelude.{◌≡◌};
 ghost use Rattle.df_lang.specs.Statements.{keyword_of};
 
-use crate::parts::Keyword;
+use crate::pieces::Keyword;
 
 /// The statement that begins with this token.
 pub(crate) fn keyword(token: &[u8]) -> Option<Keyword>

@@ -17,11 +17,11 @@ mod keywords;
 mod lookups;
 mod multipliers;
 mod names;
-mod parts;
+mod pieces;
 #[cfg(test)]
 mod printing_tests;
 mod problem;
-mod put;
+mod print_statements;
 mod read_points;
 mod reader;
 #[cfg(test)]
@@ -32,19 +32,19 @@ mod sizes;
 mod sources;
 mod statements;
 mod targets;
-mod texts;
+mod print_points;
 mod tokens;
 
 pub use canonical::{canonical_lines_are_short, line_count, print};
 pub use fault::{Needed, ParseError, SourceError, SourceFault};
-pub use parts::{Inside, Kind, Member, Name, Which};
+pub use pieces::{Inside, Kind, Member, Name, Which};
 pub use problem::{MOST_BLOCKS, MOST_TARGET, NAMES_LIMIT, Problem};
 pub use read_points::read_point;
 pub use round_trip::{canonical_lines_are_read_back, problem_is_read_back};
 pub use rules::{problems_keep_their_rules, sources_keep_their_rules};
 pub use sources::parse;
 pub use targets::target;
-pub use texts::{block_text_is_short, point_text_is_short, put_block, put_point};
+pub use print_points::{block_text_is_short, point_text_is_short, put_block, put_point};
 
 /// Out of memory.
 pub type OutOfMemory = std::alloc::AllocError;

@@ -6,7 +6,7 @@ ghost use Rattle.df_lang.specs.Values.{place_of, name_of, which_of};
 
 use crate::fault::SourceFault;
 use crate::names::{is_name, is_reserved, name};
-use crate::parts::{Name, Which};
+use crate::pieces::{Name, Which};
 use crate::problem::NAMES_LIMIT;
 use df_group::Subgroup;
 use indexmap::IndexMap;

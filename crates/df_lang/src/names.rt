@@ -3,7 +3,7 @@ ghost use Rattle.std.specs.Prelude.{◌≡◌, ◌≤◌, length, take};
 ghost use Rattle.std.specs.List.{list_any, list_all};
 ghost use Rattle.df_lang.specs.Names.{is_letter as letter, is_name_byte as name_byte, is_name as meant_name, is_reserved as reserved};
 
-use crate::parts::Name;
+use crate::pieces::Name;
 use arrayvec::ArrayVec;
 
 /// Whether a token has the form of a name.

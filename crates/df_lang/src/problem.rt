@@ -1,5 +1,5 @@
 // A problem.
-use crate::parts::{Inside, Member, Name, Which};
+use crate::pieces::{Inside, Member, Name, Which};
 use arrayvec::ArrayVec;
 use df_group::{Shape, Subgroup};
 use df_subsets::Block;
@@ -90,7 +90,7 @@ impl Model for Problem {
 impl Problem {
     ghost use Rattle.std.specs.Prelude.{◌≡◌, ◌≤◌};
     ghost use Rattle.df_group.specs.Subgroups.{IsSubgroup};
-    ghost use Rattle.df_lang.specs.Problems.{point_count, IsWord};
+    ghost use Rattle.df_lang.specs.Problems.{point_count, IsSubgroupName};
     ghost use Rattle.df_lang.specs.Targets.{subgroup_at};
 
     /// The number of points, from 2 to 128: the elements of the group and the fixed points.
@@ -103,7 +103,7 @@ impl Problem {
 
     /// The subgroup that a subgroup name names. Condition: the number of a named one is below the number of names.
     pub fn subgroup(&self, which: Which) -> Subgroup
-        requires { IsWord self.now.names which }
+        requires { IsSubgroupName self.now.names which }
         ensures members { result ≡ subgroup_at self.now which }
         ensures subgroup { IsSubgroup self.now.group result }
     {

@@ -17,7 +17,7 @@ ghost use Rattle.df_lang.specs.Statements.{meaning, statement_line, first_line, 
 use crate::draft::Draft;
 use crate::fault::{ParseError, SourceError, SourceFault, Stop};
 use crate::keywords::keyword;
-use crate::parts::{Keyword, Kind};
+use crate::pieces::{Keyword, Kind};
 use crate::tokens::one_number;
 use df_io::{Lines, Tokens};
 use indexmap::IndexMap;

@@ -1,7 +1,7 @@
 // The sizes of the blocks.
 ghost use Rattle.std.specs.Prelude.{◌≡◌, ◌≤◌, IfOk};
 ghost use Rattle.df_io.specs.Lines.{left};
-ghost use Rattle.df_subsets.specs.Blocks.{Rises};
+ghost use Rattle.df_lists.specs.NumberSets.{Rises};
 ghost use Rattle.df_lang.specs.Values.{sizes_from, sizes_read};
 
 use crate::fault::SourceFault;

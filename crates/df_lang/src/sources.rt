@@ -6,7 +6,7 @@ ghost use Rattle.df_lang.specs.Sources.{whole};
 
 use crate::draft::Draft;
 use crate::fault::{Needed, ParseError, SourceError, SourceFault};
-use crate::parts::Which;
+use crate::pieces::Which;
 use crate::problem::Problem;
 use crate::reader::read_lines;
 use arrayvec::ArrayVec;

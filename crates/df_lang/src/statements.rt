@@ -13,7 +13,7 @@ use crate::generators::elements;
 use crate::groups::group;
 use crate::lookups::{new_name, which};
 use crate::multipliers::multipliers;
-use crate::parts::{Inside, Name};
+use crate::pieces::{Inside, Name};
 use crate::problem::{MOST_TARGET, NAMES_LIMIT};
 use crate::sizes::{size_list, sizes};
 use crate::tokens::{end, needed, number_in, one_number};

@@ -11,62 +11,58 @@ use Rattle.std.proofs.lemmas.List.Sums.{length-filter}
 use Rattle.std.proofs.lemmas.List.Recursion.{is_count_by, is_sum_by}
 use Rattle.df_lists.specs.NumberSets.{has_member}
 use Rattle.df_lists.specs.Totals.{total, one}
+use Rattle.df_lists.proofs.ListTotals.{list_total}
 
--- counts and sums, by recursion
-abbrev pub cb : {X : Type 0} → (X → Bool) → List X → ℕ
-cb p [] = 0
-cb p (x ∷ xs) = one (p x) + cb p xs
+-- how many members pass, as a sum
+abbrev pub list_count : {X : Type 0} → (X → Bool) → List X → ℕ
+list_count p xs = list_total (λ x. one (p x)) xs
 
-abbrev pub sb : {X : Type 0} → (X → ℕ) → List X → ℕ
-sb f [] = 0
-sb f (x ∷ xs) = f x + sb f xs
+pub list_count_is : {X : Type 0} (p : X → Bool) (xs : List X) → list_count p xs ≡ count_by p xs
+list_count_is p xs = is_count_by (list_count p) p refl (λ x xs. elim (p x) as (λ v. one v + list_count p xs ≡ cond v (1 + list_count p xs) (list_count p xs)) [ true ↦ refl | false ↦ omega arith ]) xs
 
-pub cb_is : {X : Type 0} (p : X → Bool) (xs : List X) → cb p xs ≡ count_by p xs
-cb_is p xs = is_count_by (cb p) p refl (λ x xs. elim (p x) as (λ v. one v + cb p xs ≡ cond v (1 + cb p xs) (cb p xs)) [ true ↦ refl | false ↦ omega arith ]) xs
+pub list_total_is : {X : Type 0} (f : X → ℕ) (xs : List X) → list_total f xs ≡ sum_by f xs
+list_total_is f xs = is_sum_by (list_total f) f refl (λ _ _. refl) xs
 
-pub sb_is : {X : Type 0} (f : X → ℕ) (xs : List X) → sb f xs ≡ sum_by f xs
-sb_is f xs = is_sum_by (sb f) f refl (λ _ _. refl) xs
+pub list_count_append : {X : Type 0} (p : X → Bool) (xs ys : List X) → list_count p (xs ++ ys) ≡ list_count p xs + list_count p ys
+list_count_append p [] ys = omega arith
+list_count_append p (x ∷ xs) ys = let ih = list_count_append p xs ys in omega arith
 
-pub cb_append : {X : Type 0} (p : X → Bool) (xs ys : List X) → cb p (xs ++ ys) ≡ cb p xs + cb p ys
-cb_append p [] ys = omega arith
-cb_append p (x ∷ xs) ys = let ih = cb_append p xs ys in omega arith
+pub list_total_append : {X : Type 0} (f : X → ℕ) (xs ys : List X) → list_total f (xs ++ ys) ≡ list_total f xs + list_total f ys
+list_total_append f [] ys = omega arith
+list_total_append f (x ∷ xs) ys = let ih = list_total_append f xs ys in omega arith
 
-pub sb_append : {X : Type 0} (f : X → ℕ) (xs ys : List X) → sb f (xs ++ ys) ≡ sb f xs + sb f ys
-sb_append f [] ys = omega arith
-sb_append f (x ∷ xs) ys = let ih = sb_append f xs ys in omega arith
+pub list_count_flat_map : {X Y : Type 0} (p : Y → Bool) (f : X → List Y) (xs : List X) → list_count p (flat_map f xs) ≡ list_total (λ x. list_count p (f x)) xs
+list_count_flat_map p f [] = refl
+list_count_flat_map p f (x ∷ xs) = list_count_append p (f x) (flat_map f xs) ∙ ap (λ n. list_count p (f x) + n) (list_count_flat_map p f xs)
 
-pub cb_flat_map : {X Y : Type 0} (p : Y → Bool) (f : X → List Y) (xs : List X) → cb p (flat_map f xs) ≡ sb (λ x. cb p (f x)) xs
-cb_flat_map p f [] = refl
-cb_flat_map p f (x ∷ xs) = cb_append p (f x) (flat_map f xs) ∙ ap (λ n. cb p (f x) + n) (cb_flat_map p f xs)
+pub list_count_map : {X Y : Type 0} (p : Y → Bool) (f : X → Y) (xs : List X) → list_count p (map f xs) ≡ list_count (λ x. p (f x)) xs
+list_count_map p f [] = refl
+list_count_map p f (x ∷ xs) = ap (λ n. one (p (f x)) + n) (list_count_map p f xs)
 
-pub cb_map : {X Y : Type 0} (p : Y → Bool) (f : X → Y) (xs : List X) → cb p (map f xs) ≡ cb (λ x. p (f x)) xs
-cb_map p f [] = refl
-cb_map p f (x ∷ xs) = ap (λ n. one (p (f x)) + n) (cb_map p f xs)
+pub list_count_filter : {X : Type 0} (s t : X → Bool) (xs : List X) → list_count t (filter s xs) ≡ list_total (λ x. cond (s x) (one (t x)) 0) xs
+list_count_filter s t [] = refl
+list_count_filter s t (x ∷ xs) =
+    let ih = list_count_filter s t xs in
+    elim (s x) as (λ v. list_count t (cond v (x ∷ filter s xs) (filter s xs)) ≡ cond v (one (t x)) 0 + list_total (λ x. cond (s x) (one (t x)) 0) xs) [ true ↦ omega (arith, ih) | false ↦ omega (arith, ih) ]
 
-pub cb_filter : {X : Type 0} (s t : X → Bool) (xs : List X) → cb t (filter s xs) ≡ sb (λ x. cond (s x) (one (t x)) 0) xs
-cb_filter s t [] = refl
-cb_filter s t (x ∷ xs) =
-    let ih = cb_filter s t xs in
-    elim (s x) as (λ v. cb t (cond v (x ∷ filter s xs) (filter s xs)) ≡ cond v (one (t x)) 0 + sb (λ x. cond (s x) (one (t x)) 0) xs) [ true ↦ omega (arith, ih) | false ↦ omega (arith, ih) ]
-
-pub sb_filter : {X : Type 0} (s : X → Bool) (f : X → ℕ) (xs : List X) → sb f (filter s xs) ≡ sb (λ x. cond (s x) (f x) 0) xs
-sb_filter s f [] = refl
-sb_filter s f (x ∷ xs) =
-    let ih = sb_filter s f xs in
-    elim (s x) as (λ v. sb f (cond v (x ∷ filter s xs) (filter s xs)) ≡ cond v (f x) 0 + sb (λ x. cond (s x) (f x) 0) xs) [ true ↦ omega (arith, ih) | false ↦ omega (arith, ih) ]
+pub list_total_filter : {X : Type 0} (s : X → Bool) (f : X → ℕ) (xs : List X) → list_total f (filter s xs) ≡ list_total (λ x. cond (s x) (f x) 0) xs
+list_total_filter s f [] = refl
+list_total_filter s f (x ∷ xs) =
+    let ih = list_total_filter s f xs in
+    elim (s x) as (λ v. list_total f (cond v (x ∷ filter s xs) (filter s xs)) ≡ cond v (f x) 0 + list_total (λ x. cond (s x) (f x) 0) xs) [ true ↦ omega (arith, ih) | false ↦ omega (arith, ih) ]
 
 pub range_more : (n : ℕ) → range_with_len 0 (suc n) ≡ range_with_len 0 n ++ n ∷ []
 range_more n =
     let e : suc n ≡ n + 1 = omega arith in
     ap (range_with_len 0) e ∙ sym (map-id (range_with_len 0 (n + 1))) ∙ map-range_with_len_more (λ (x : ℕ). x) 0 n n (omega arith) ∙ ap (λ l. l ++ n ∷ []) (map-id (range_with_len 0 n))
 
-pub cb_range : (t : ℕ → Bool) (n : ℕ) → cb t (range_with_len 0 n) ≡ total (λ i. one (t i)) n
-cb_range t zero = refl
-cb_range t (suc n) = ap (cb t) (range_more n) ∙ cb_append t (range_with_len 0 n) (n ∷ []) ∙ (let ih = cb_range t n in omega arith)
+pub list_count_range : (t : ℕ → Bool) (n : ℕ) → list_count t (range_with_len 0 n) ≡ total (λ i. one (t i)) n
+list_count_range t zero = refl
+list_count_range t (suc n) = ap (list_count t) (range_more n) ∙ list_count_append t (range_with_len 0 n) (n ∷ []) ∙ (let ih = list_count_range t n in omega arith)
 
-pub sb_range : (f : ℕ → ℕ) (n : ℕ) → sb f (range_with_len 0 n) ≡ total f n
-sb_range f zero = refl
-sb_range f (suc n) = ap (sb f) (range_more n) ∙ sb_append f (range_with_len 0 n) (n ∷ []) ∙ (let ih = sb_range f n in omega arith)
+pub list_total_range : (f : ℕ → ℕ) (n : ℕ) → list_total f (range_with_len 0 n) ≡ total f n
+list_total_range f zero = refl
+list_total_range f (suc n) = ap (list_total f) (range_more n) ∙ list_total_append f (range_with_len 0 n) (n ∷ []) ∙ (let ih = list_total_range f n in omega arith)
 
 pub filter_same : (s t : ℕ → Bool) (n : ℕ) → ((i : ℕ) → i < n → s i ≡ t i) → filter s (range_with_len 0 n) ≡ filter t (range_with_len 0 n)
 filter_same s t zero h = refl
@@ -91,4 +87,4 @@ has_filter t n p h =
 
 -- how many numbers below n a test picks
 pub length_picked : (t : ℕ → Bool) (n : ℕ) → length (filter t (range_with_len 0 n)) ≡ total (λ i. one (t i)) n
-length_picked t n = length-filter t (range_with_len 0 n) ∙ sym (cb_is t (range_with_len 0 n)) ∙ cb_range t n
+length_picked t n = length-filter t (range_with_len 0 n) ∙ sym (list_count_is t (range_with_len 0 n)) ∙ list_count_range t n

@@ -68,7 +68,7 @@ module _ (n : ℕ) (same : ℕ → ℕ → Bool) (is : IsSameness n same) where
   -- a sum over all is one over the least members, each as often as its class has members
   pub leasts : (F : ℕ → ℕ) (m : ℕ) → ((g h : ℕ) → g < n → h < n → same h g ≡ true → F g ≡ F h) → ((h : ℕ) → h < n → total (λ g. one (same h g)) n ≡ m)
       → total F n ≡ m * total (λ h. cond (is_least same h) (F h) 0) n
-  leasts F m alike size =
+  leasts F m agree_here size =
       total_same F (λ g. total (λ h. cond (is_least same h && same h g) (F g) 0) n) n (λ g l.
       let found = first_until (λ j. same j g) g (is.self g l) in
       sym (total_at (λ h. F g) found.0 n (omega (arith, found.1)))
@@ -88,7 +88,7 @@ module _ (n : ℕ) (same : ℕ → ℕ → Bool) (is : IsSameness n same) where
       both false false a b h = refl
 
       part : (g h : ℕ) → g < n → h < n → cond (is_least same h && same h g) (F g) 0 ≡ cond (is_least same h) (F h) 0 * one (same h g)
-      part g h l k = both (is_least same h) (same h g) (F g) (F h) (alike g h l k)
+      part g h l k = both (is_least same h) (same h g) (F g) (F h) (agree_here g h l k)
 
 pub any_from : (t : ℕ → Bool) (n j : ℕ) → j < n → t j ≡ true → any_below t n ≡ true
 any_from t n j l e = go (any_below t n) refl

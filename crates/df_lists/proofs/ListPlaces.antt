@@ -1,5 +1,5 @@
 -- Places of lists and their members.
-use Rattle.std.proofs.Common.{◌≡◌, ℕ, zero, suc, ◌<◌, List, [], ◌∷◌, length, get_or, refl, inl, inr, arith, All, set, slice_get, Option, Some, subst}
+use Rattle.std.proofs.Common.{◌≡◌, ℕ, zero, suc, ◌<◌, List, [], ◌∷◌, length, get_or, refl, inl, inr, arith, All, set, slice_get, Some, subst}
 use Rattle.std.proofs.lemmas.Option.{same_Some}
 use Rattle.df_lists.specs.Membership.{In}
 

@@ -1,14 +1,10 @@
 -- Sets of numbers, written as increasing lists.
-use Rattle.std.specs.Prelude.{◌≡◌, ◌==◌, ◌≤◌, ◌<◌, ◌+◌, ℕ, Bool, List, [], ◌∷◌, filter, nat_lt, if◌then◌else◌}
+use Rattle.std.specs.Prelude.{◌==◌, ◌≤◌, ◌<◌, ◌+◌, ℕ, Bool, List, [], ◌∷◌, filter, nat_lt, if◌then◌else◌}
 use Rattle.std.specs.List.{range_with_len, list_any}
 
 -- whether a number is a member
 abbrev pub has_member : List ℕ → ℕ → Bool
 has_member set p = list_any (λ q. q == p) set
-
--- the list is the increasing list of its members, which lie below n
-abbrev pub IsSet : ℕ → List ℕ → Type 0
-IsSet n set = set ≡ filter (has_member set) (range_with_len 0 n)
 
 -- the increasing list of these numbers, as far as they lie below n
 abbrev pub set_of : ℕ → List ℕ → List ℕ
@@ -23,3 +19,7 @@ with_member p (q ∷ qs) = if nat_lt p q then p ∷ q ∷ qs else (if p == q the
 abbrev pub Rises : ℕ → ℕ → List ℕ → Type 0
 Rises low v [] = Unit {0}
 Rises low v (p ∷ b) = (low ≤ p) × (p < v) × Rises (p + 1) v b
+
+-- a set of numbers below n, written as the increasing list of its members
+abbrev pub IsSet : ℕ → List ℕ → Type 0
+IsSet n set = Rises 0 n set

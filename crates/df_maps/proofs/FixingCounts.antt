@@ -7,7 +7,7 @@ use Rattle.df_lists.specs.Membership.{count}
 use Rattle.df_lists.specs.NumberSets.{IsSet}
 use Rattle.df_lists.proofs.MemberLaws.{count-map}
 use Rattle.df_subsets.specs.Subsets.{same_list, subsets}
-use Rattle.df_acting.specs.Classes.{in_one_class}
+use Rattle.df_acting.specs.Orbits.{in_one_orbit_by}
 use Rattle.df_maps.specs.FullMaps.{MapGroup, image, map_number, full_maps, point_count}
 use Rattle.df_maps.specs.Laws.{AreGroup}
 use Rattle.df_maps.proofs.LoopSteps.{count_more}
@@ -27,7 +27,7 @@ module _ (M : MapGroup) (A : AreGroup M) (b : List ℕ) (set : IsSet (point_coun
       ∙ sym (ap (count (λ g. same_list (image M g b) b)) A.numbered ∙ count-map (λ g. same_list (image M g b) b) (map_number M) (range_with_len 0 (length (full_maps M))))
 
   abbrev size : ℕ
-  size = count (in_one_class same_list (image M) (full_maps M) b) (subsets (point_count M) (length b))
+  size = count (in_one_orbit_by same_list (image M) (full_maps M) b) (subsets (point_count M) (length b))
 
   product : length (full_maps M) ≡ f * size
   product = A.orbits b set ∙ ap (λ k. k * size) (sym all_fixing)
@@ -36,6 +36,6 @@ module _ (M : MapGroup) (A : AreGroup M) (b : List ℕ) (set : IsSet (point_coun
   pub fixing_some : 0 < length (full_maps M) → 0 < f
   fixing_some some = ⊎_elim (λ l. l) (λ l. absurd (let z : f ≡ 0 = omega (arith, l) in let y : length (full_maps M) ≡ 0 = product ∙ ap (λ k. k * size) z ∙ omega arith in omega (arith, y, some))) (cases_lt 0 f)
 
-  -- the size of the class is a quotient
-  pub size_is : (maps : ℕ) → maps ≡ length (full_maps M) → 0 < maps → maps / f ≡ count (in_one_class same_list (image M) (full_maps M) b) (subsets (point_count M) (length b))
+  -- the size of the orbit is a quotient
+  pub size_is : (maps : ℕ) → maps ≡ length (full_maps M) → 0 < maps → maps / f ≡ count (in_one_orbit_by same_list (image M) (full_maps M) b) (subsets (point_count M) (length b))
   size_is maps all some = ap (λ m. m / f) (all ∙ product ∙ mul_comm f size) ∙ mul-div_cancel size (fixing_some (omega (arith, all, some)))

@@ -13,7 +13,7 @@ use Rattle.df_group.proofs.ElementLaws.{ArePositive, positive_shape, is_group}
 use Rattle.df_group.proofs.ExponentLaws.{exponent_some, exponent_low}
 use Rattle.df_group.proofs.UnitLaws.{IsUndone, unit_undone}
 use Rattle.df_group.proofs.MultipleLaws.{are_multiples}
-use Rattle.df_acting.specs.Classes.{IsMapGroup}
+use Rattle.df_acting.specs.Orbits.{IsMapGroup}
 use Rattle.df_lists.proofs.TestLaws.{has_from, has_gives}
 use Rattle.df_lists.proofs.SetLaws.{In-set, In-points, numbers_equal}
 use Rattle.df_acting.proofs.OntoLists.{onto}
@@ -21,7 +21,7 @@ use Rattle.df_maps.specs.FullMaps.{MapGroup, IsMaps, moved, carried, point_count
 use Rattle.df_maps.proofs.NumberLaws.{In-pairs, In-pairs_gives, length-pairs, pairs_numbered}
 use Rattle.df_maps.proofs.SetLists.{set_once, set_first}
 
--- m s and m t are alike only where s and t are
+-- m s and m t are equal only where s and t are
 undone_apart : (e m s t : ℕ) → IsUndone e m → (m * s) % e ≡ (m * t) % e → s % e ≡ t % e
 undone_apart e m s t u h = sym (back s) ∙ ap (λ n. (u.0 * n) % e) h ∙ back t
   where

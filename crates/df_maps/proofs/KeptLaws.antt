@@ -3,12 +3,12 @@ use Rattle.std.proofs.Common.{◌≡◌, ℕ, ◌*◌, ◌%◌, ◌<◌, ◌≤�
 use Rattle.std.proofs.lemmas.Bool.{cases_lt}
 use Rattle.df_lists.specs.Membership.{In}
 use Rattle.df_lists.specs.NumberSets.{IsSet}
-use Rattle.df_group.specs.Elements.{Group, IsGroup}
+use Rattle.df_group.specs.Elements.{Group, IsGroup, shifted}
 use Rattle.df_group.specs.Multiples.{AreMultiples}
 use Rattle.df_acting.specs.Images.{image, IsInvariant}
 use Rattle.df_acting.proofs.ImageLaws.{image_by_agree, image_by_same, image_by_twice}
 use Rattle.df_maps.specs.Products.{product_of, AllIn, AreProducts}
-use Rattle.df_maps.specs.FullMaps.{moved, shifted, multiplied}
+use Rattle.df_maps.specs.FullMaps.{moved, multiplied}
 use Rattle.df_maps.proofs.NumberLaws.{pairs, In-pairs, In-pairs_gives}
 
 module _ (G : Group) (e : ℕ) (g : IsGroup G) (A : AreMultiples G e) where

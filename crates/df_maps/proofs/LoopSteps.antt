@@ -6,7 +6,7 @@ use Rattle.std.specs.List.{list_all, range_with_len}
 use Rattle.df_lists.specs.Membership.{count}
 use Rattle.df_lists.proofs.RangeLaws.{range_more}
 use Rattle.df_lists.proofs.MemberLaws.{count-append}
-use Rattle.df_acting.specs.Earliest.{earliest}
+use Rattle.df_acting.specs.Representatives.{earliest}
 use Rattle.df_lists.proofs.TestLaws.{all_gives}
 use Rattle.df_lists.proofs.SetLaws.{In-points}
 

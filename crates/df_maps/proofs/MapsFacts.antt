@@ -4,7 +4,6 @@ use Rattle.df_lists.proofs.SetLaws.{In-set}
 use Rattle.df_group.specs.Elements.{order_of}
 use Rattle.df_maps.specs.FullMaps.{MapGroup, IsMaps, full_maps, map_number, carried, point_count}
 use Rattle.df_subsets.specs.Subsets.{subsets, same_list}
-use Rattle.df_subsets.proofs.BlockLaws.{set_is_block}
 use Rattle.df_subsets.proofs.SubsetLists.{subsets_have}
 use Rattle.df_maps.proofs.SpreadLaws.{lists_equal, subsets_spread}
 use Rattle.df_maps.proofs.TurnLaws.{orbit_size}
@@ -19,7 +18,7 @@ are_group M is = record {
   numbered = numbered M is;
   identity = identity M is;
   fixes = λ q h. carried_one M is q;
-  orbits = λ b s. orbit_size M is same_list lists_equal (subsets (point_count M) (length b)) (subsets_spread (carried M) (point_count M) (full_maps M) (group M is) (length b)) b (subsets_have (point_count M) (length b) b (set_is_block (point_count M) b s) refl);
+  orbits = λ b s. orbit_size M is same_list lists_equal (subsets (point_count M) (length b)) (subsets_spread (carried M) (point_count M) (full_maps M) (group M is) (length b)) b (subsets_have (point_count M) (length b) b s refl);
   apart = apart M is;
 }
 

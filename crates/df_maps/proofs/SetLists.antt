@@ -8,18 +8,18 @@ use Rattle.df_lists.specs.NumberSets.{has_member, IsSet}
 use Rattle.df_lists.proofs.MemberLaws.{In-filter_gives, In-range_gives}
 use Rattle.df_lists.specs.Orders.{IsSorted}
 use Rattle.df_lists.proofs.TestLaws.{filter_agree, has_from}
-use Rattle.df_lists.proofs.SetLaws.{range_once, In-set}
+use Rattle.df_lists.proofs.SetLaws.{set_picked, range_once, In-set}
 use Rattle.df_lists.proofs.ListPlaces.{In-get_or}
 use Rattle.df_lists.proofs.TestLaws.{filter-filter}
 
 -- a member stands in the list once
 pub set_once : (v : ℕ) (b : List ℕ) (p : ℕ) → IsSet v b → In b p → count (eqb p) b ≡ 1
 set_once v b p is i =
-    ap (count (eqb p)) is ∙ ap length (filter-filter (eqb p) (has_member b) (range_with_len 0 v) ∙ filter_agree (λ q. has_member b q && eqb p q) (eqb p) (range_with_len 0 v) (λ q j. alike q))
+    ap (count (eqb p)) (set_picked v b is) ∙ ap length (filter-filter (eqb p) (has_member b) (range_with_len 0 v) ∙ filter_agree (λ q. has_member b q && eqb p q) (eqb p) (range_with_len 0 v) (λ q j. agree_here q))
     ∙ range_once 0 v p (omega arith) (omega (arith, In-set v b p is i))
   where
-    alike : (q : ℕ) → (has_member b q && eqb p q) ≡ eqb p q
-    alike q = go (eqb p q) refl
+    agree_here : (q : ℕ) → (has_member b q && eqb p q) ≡ eqb p q
+    agree_here q = go (eqb p q) refl
       where
         go : (c : Bool) → eqb p q ≡ c → (has_member b q && c) ≡ c
         go true e = and-true (has_member b q) ∙ has_from b q (subst (In b) (eqb-true p q e) i)
@@ -39,7 +39,7 @@ filter_sorted t a (suc n) =
     ]
 
 pub set_sorted : (v : ℕ) (b : List ℕ) → IsSet v b → IsSorted ltb b
-set_sorted v b is = subst (IsSorted ltb) (sym is) (filter_sorted (has_member b) 0 v)
+set_sorted v b is = subst (IsSorted ltb) (sym (set_picked v b is)) (filter_sorted (has_member b) 0 v)
 
 -- an earlier place has a smaller number
 sorted_at : (b : List ℕ) (i j : ℕ) → IsSorted ltb b → i < j → j < length b → get_or b i 0 < get_or b j 0

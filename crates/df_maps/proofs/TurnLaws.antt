@@ -10,8 +10,8 @@ use Rattle.df_group.specs.Subgroups.{exponent_of}
 use Rattle.df_group.proofs.ElementLaws.{is_group}
 use Rattle.df_group.proofs.MultipleLaws.{are_multiples}
 use Rattle.df_lists.specs.Orders.{IsEquality}
-use Rattle.df_acting.specs.Classes.{IsMapGroup, IsSpread, in_one_class}
-use Rattle.df_acting.proofs.ClassLaws.{permutes}
+use Rattle.df_acting.specs.Orbits.{IsMapGroup, IsSpread, in_one_orbit_by}
+use Rattle.df_acting.proofs.OrbitLaws.{permutes}
 use Rattle.df_acting.proofs.ImageLaws.{image_group, image_times}
 use Rattle.df_acting.proofs.StabilizerLaws.{orbit_stabilizer}
 use Rattle.df_maps.specs.FullMaps.{MapGroup, IsMaps, full_maps, carried, point_count, image}
@@ -79,9 +79,9 @@ module _ (M : MapGroup) (is : IsMaps M) where
     moves = λ f i h j. after_in M is f h i j;
   }
 
-  -- the maps that fix a block, times the blocks of its class, are all the maps
+  -- the maps that fix a block, times the blocks of its orbit, are all the maps
   pub orbit_size : (eq : List ℕ → List ℕ → Bool) → IsEquality eq → (xs : List (List ℕ)) → IsSpread eq (image M) (IsSet (point_count M)) (full_maps M) xs → (b : List ℕ) → In xs b
-      → length (full_maps M) ≡ count (λ g. eq (image M g b) b) (full_maps M) * count (in_one_class eq (image M) (full_maps M) b) xs
+      → length (full_maps M) ≡ count (λ g. eq (image M g b) b) (full_maps M) * count (in_one_orbit_by eq (image M) (full_maps M) b) xs
   orbit_size eq E xs S b i =
       orbit_stabilizer eq (image M) (IsSet (point_count M)) (full_maps M) E (image_group (carried M) (point_count M) (full_maps M) (group M is)) (then_also)
       (λ f h i j x d. image_times (carried M) (point_count M) (full_maps M) (group M is) f h (then_also f h) x j (λ p l. carried_after M is f h p) d)

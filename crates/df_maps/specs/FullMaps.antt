@@ -7,10 +7,6 @@ use Rattle.df_group.specs.Subgroups.{exponent_of, is_unit}
 use Rattle.df_acting.specs.Images as acting
 use Rattle.df_maps.specs.Products.{products}
 
--- x -> x + h on elements; each fixed point stays
-abbrev pub shifted : Group → ℕ → ℕ → ℕ
-shifted G h p = if nat_lt p G.order then G.plus p h else p
-
 -- x -> m x on elements; each fixed point stays
 abbrev pub multiplied : Group → ℕ → ℕ → ℕ
 multiplied G m p = if nat_lt p G.order then G.times m p else p

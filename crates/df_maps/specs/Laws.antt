@@ -3,13 +3,13 @@ use Rattle.std.specs.Prelude.{◌≡◌, ◌<◌, ◌≤◌, ℕ, ◌+◌, ◌*�
 use Rattle.std.specs.List.{range_with_len}
 use Rattle.df_lists.specs.Membership.{In, count}
 use Rattle.df_lists.specs.NumberSets.{IsSet}
-use Rattle.df_group.specs.Elements.{group_of, order_of, IsShape}
+use Rattle.df_group.specs.Elements.{group_of, order_of, IsShape, shifted}
 use Rattle.df_group.specs.Subgroups.{exponent_of, is_unit, IsSubgroup}
 use Rattle.df_subsets.specs.Subsets.{subsets, same_list}
-use Rattle.df_acting.specs.Classes.{IsMapGroup, in_one_class}
+use Rattle.df_acting.specs.Orbits.{IsMapGroup, in_one_orbit_by}
 use Rattle.df_acting.specs.Images.{IsInvariant}
 use Rattle.df_maps.specs.Products.{products, AreProducts}
-use Rattle.df_maps.specs.FullMaps.{MapGroup, IsMaps, maps_of, point_count, full_maps, map_number, carried, image, shifted, multiplied}
+use Rattle.df_maps.specs.FullMaps.{MapGroup, IsMaps, maps_of, point_count, full_maps, map_number, carried, image, multiplied}
 
 -- the residues of products are those of all lists
 abbrev pub ProductsAreAll : Type 0
@@ -25,7 +25,7 @@ pub record AreGroup (M : MapGroup) : Type 0 where
   pub numbered : full_maps M ≡ map (map_number M) (range_with_len 0 (length (full_maps M)))
   pub identity : map_number M 0 ≡ (1, 0)
   pub fixes : (p : ℕ) → p < point_count M → carried M (1, 0) p ≡ p
-  pub orbits : (b : List ℕ) → IsSet (point_count M) b → length (full_maps M) ≡ count (λ g. same_list (image M g b) b) (full_maps M) * count (in_one_class same_list (image M) (full_maps M) b) (subsets (point_count M) (length b))
+  pub orbits : (b : List ℕ) → IsSet (point_count M) b → length (full_maps M) ≡ count (λ g. same_list (image M g b) b) (full_maps M) * count (in_one_orbit_by same_list (image M) (full_maps M) b) (subsets (point_count M) (length b))
   pub apart : (i j : ℕ) → i < length (full_maps M) → j < length (full_maps M) → ((p : ℕ) → p < point_count M → carried M (map_number M i) p ≡ carried M (map_number M j) p) → i ≡ j
 
 abbrev pub MapsAreGroups : Type 0

@@ -11,7 +11,7 @@ pub fn maps_are_made()
     ensures { MapsAreMade }
 {}
 
-/// A group of maps is closed under composition and inverse, map 0 moves nothing, and no two of the maps are alike.
+/// A group of maps is closed under composition and inverse, map 0 moves nothing, and no two of the maps are equal.
 pub fn maps_are_groups()
     ensures { MapsAreGroups }
 {}

@@ -2,13 +2,13 @@
 ghost use Rattle.std.specs.Prelude.{◌≡◌, ◌<◌, ◌≤◌, ◌+◌, ℕ, true, All, length, filter};
 ghost use Rattle.std.specs.List.{range_with_len};
 ghost use Rattle.df_lists.specs.Membership.{In, count};
-ghost use Rattle.df_lists.specs.NumberSets.{has_member};
+ghost use Rattle.df_lists.specs.NumberSets.{has_member, IsSet};
 ghost use Rattle.df_group.specs.Elements.{order_of};
 ghost use Rattle.df_group.specs.Subgroups.{exponent_of, is_unit, IsSubgroup};
-ghost use Rattle.df_subsets.specs.Blocks.{IsBlock, before};
+ghost use Rattle.df_subsets.specs.Blocks.{before};
 ghost use Rattle.df_subsets.specs.Subsets.{subsets, same_list};
-ghost use Rattle.df_acting.specs.Classes.{in_one_class};
-ghost use Rattle.df_acting.specs.Earliest.{is_earliest, earliest_image};
+ghost use Rattle.df_acting.specs.Orbits.{in_one_orbit_by};
+ghost use Rattle.df_acting.specs.Representatives.{is_representative, representative_by};
 ghost use Rattle.df_maps.specs.FullMaps.{maps_of, point_count, full_maps, map_number, carried, image};
 ghost use Rattle.df_maps.specs.Laws.{AreGroup};
 
@@ -77,7 +77,7 @@ impl Maps {
         self.shape.order() + self.fixed
     }
 
-    /// The number of maps, at least 1 and at most 16,384. No two of them are alike.
+    /// The number of maps, at least 1 and at most 16,384. No two of them are equal.
     pub fn count(&self) -> u32
         ensures count { result ≡ length (full_maps self.now) }
         ensures maps { AreGroup self.now }
@@ -102,9 +102,9 @@ impl Maps {
     /// The image of a block of points below the number of points under map number `i`, below the count.
     pub fn image_block(&self, i: u32, block: &Block) -> Block
         requires number { i < length (full_maps self.now) }
-        requires block { IsBlock (point_count self.now) block.now }
+        requires block { IsSet (point_count self.now) block.now }
         ensures image { result ≡ image self.now (map_number self.now i) block.now }
-        ensures block { IsBlock (point_count self.now) result }
+        ensures block { IsSet (point_count self.now) result }
         ensures size { length result ≡ length block.now }
     {
         let (m, h) = self.numbered(i);
@@ -118,8 +118,8 @@ impl Maps {
 
     /// Whether no image of a block of points below the number of points is earlier than the block.
     pub fn is_least(&self, block: &Block) -> bool
-        requires { IsBlock (point_count self.now) block.now }
-        ensures { result ≡ is_earliest before (image self.now) (full_maps self.now) block.now }
+        requires { IsSet (point_count self.now) block.now }
+        ensures { result ≡ is_representative before (image self.now) (full_maps self.now) block.now }
     {
         for i in 0..self.count() {
             if self.image_block(i, block) < *block {
@@ -131,10 +131,10 @@ impl Maps {
 
     /// The earliest image of a block of points below the number of points.
     pub fn least_image(&self, block: &Block) -> Block
-        requires { IsBlock (point_count self.now) block.now }
-        ensures image { result ≡ earliest_image before (image self.now) (full_maps self.now) block.now }
+        requires { IsSet (point_count self.now) block.now }
+        ensures image { result ≡ representative_by before (image self.now) (full_maps self.now) block.now }
         ensures maps { AreGroup self.now }
-        ensures block { IsBlock (point_count self.now) result }
+        ensures block { IsSet (point_count self.now) result }
         ensures size { length result ≡ length block.now }
     {
         let mut least = *block;
@@ -149,8 +149,8 @@ impl Maps {
 
     /// The number of different images of a block of points below the number of points.
     pub fn orbit_size(&self, block: &Block) -> u32
-        requires { IsBlock (point_count self.now) block.now }
-        ensures { result ≡ count (in_one_class same_list (image self.now) (full_maps self.now) block.now) (subsets (point_count self.now) (length block.now)) }
+        requires { IsSet (point_count self.now) block.now }
+        ensures { result ≡ count (in_one_orbit_by same_list (image self.now) (full_maps self.now) block.now) (subsets (point_count self.now) (length block.now)) }
     {
         let mut fixing = 0;
         for i in 0..self.count() {

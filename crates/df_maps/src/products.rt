@@ -1,10 +1,12 @@
 // The residues of products of multipliers.
-ghost use Rattle.std.specs.Prelude.{◌≡◌, ◌<◌, ◌≤◌, ◌==◌, ◌*◌, ◌%◌, ◌||◌, ℕ, true, false, length, slice_index_or};
+ghost use Rattle.std.specs.Prelude.{◌≡◌, ◌<◌, ◌≤◌, ◌==◌, ◌*◌, ◌%◌, ◌||◌, ℕ, true, length};
 ghost use Rattle.std.specs.List.{list_any};
 ghost use Rattle.df_lists.specs.Membership.{In};
+ghost use Rattle.df_lists.specs.NumberSets.{has_member, IsSet};
 ghost use Rattle.df_maps.specs.Products.{products, products_within};
 
 use arrayvec::ArrayVec;
+use df_sets::NumberSet;
 
 /// The residues by `exponent` of the products of all lists of the multipliers, increasing.
 pub fn residues_of_products(exponent: u8, mults: &[u16]) -> ArrayVec<u8, 128>
@@ -12,59 +14,58 @@ pub fn residues_of_products(exponent: u8, mults: &[u16]) -> ArrayVec<u8, 128>
     requires small { exponent ≤ 128 }
     ensures { result.items ≡ products exponent mults.now }
 {
-    let mut reached = [false; 128];
-    reach(&mut reached, exponent, mults);
+    let mut rest = reached(exponent, mults);
     let mut residues = ArrayVec::new();
-    for r in 0..exponent {
-        if !reached[usize::from(r)] {
-            continue;
-        }
-        residues.push(r);
+    while let Some(residue) = rest.pop_first() {
+        residues.push(residue);
     }
     residues
 }
 
-// Marks the residues of all products: 1, and in each of as many passes as there are residues what one more multiplier gives.
-fn reach(reached: &mut [bool], exponent: u8, mults: &[u16])
+// The set of the residues of all products: 1, and in each of as many passes as there are residues what one more
+// multiplier gives.
+fn reached(exponent: u8, mults: &[u16]) -> NumberSet
     requires some { 0 < exponent }
-    requires long { exponent ≤ length reached.old }
-    requires none { (r : ℕ) → slice_index_or reached.old r false ≡ false }
-    ensures all { (r : ℕ) → In (products exponent mults.now) r → slice_index_or reached.new r false ≡ true }
-    ensures only { (r : ℕ) → slice_index_or reached.new r false ≡ true → In (products exponent mults.now) r }
+    requires small { exponent ≤ 128 }
+    ensures { result ≡ products exponent mults.now }
 {
-    reached[usize::from(1 % exponent)] = true;
+    let mut reached = NumberSet::empty();
+    reached.insert(1 % exponent);
     for pass in 0..exponent {
-        multiply(reached, exponent, mults);
+        multiply(&mut reached, exponent, mults);
     }
+    reached
 }
 
-// Marks what one multiplier makes of the residues that are marked.
-fn multiply(reached: &mut [bool], exponent: u8, mults: &[u16])
+// Adds what one multiplier makes of the residues that are reached.
+fn multiply(reached: &mut NumberSet, exponent: u8, mults: &[u16])
     requires some { 0 < exponent }
-    requires long { exponent ≤ length reached.old }
-    requires only { (r : ℕ) → slice_index_or reached.old r false ≡ true → In (products exponent mults.now) r }
-    ensures long { length reached.new ≡ length reached.old }
-    ensures stay { (r : ℕ) → slice_index_or reached.old r false ≡ true → slice_index_or reached.new r false ≡ true }
-    ensures more { (m r : ℕ) → In mults.now m → r < exponent → slice_index_or reached.old r false ≡ true → slice_index_or reached.new ((m * r) % exponent) false ≡ true }
-    ensures only { (r : ℕ) → slice_index_or reached.new r false ≡ true → In (products exponent mults.now) r }
+    requires small { exponent ≤ 128 }
+    requires set { IsSet 128 reached.old }
+    requires only { (r : ℕ) → has_member reached.old r ≡ true → In (products exponent mults.now) r }
+    ensures set { IsSet 128 reached.new }
+    ensures stay { (r : ℕ) → has_member reached.old r ≡ true → has_member reached.new r ≡ true }
+    ensures more { (m r : ℕ) → In mults.now m → r < exponent → has_member reached.old r ≡ true → has_member reached.new ((m * r) % exponent) ≡ true }
+    ensures only { (r : ℕ) → has_member reached.new r ≡ true → In (products exponent mults.now) r }
 {
     for r in 0..exponent {
-        if !reached[usize::from(r)] {
+        if !reached.has(r) {
             continue;
         }
         multiply_one(reached, exponent, mults, r);
     }
 }
 
-// Marks what each multiplier makes of one residue.
-fn multiply_one(reached: &mut [bool], exponent: u8, mults: &[u16], residue: u8)
+// Adds what each multiplier makes of one residue.
+fn multiply_one(reached: &mut NumberSet, exponent: u8, mults: &[u16], residue: u8)
     requires some { 0 < exponent }
-    requires long { exponent ≤ length reached.old }
-    ensures long { length reached.new ≡ length reached.old }
-    ensures marks { (j : ℕ) → slice_index_or reached.new j false ≡ (slice_index_or reached.old j false || list_any (λ m. (m * residue) % exponent == j) mults.now) }
+    requires small { exponent ≤ 128 }
+    requires set { IsSet 128 reached.old }
+    ensures set { IsSet 128 reached.new }
+    ensures members { (j : ℕ) → has_member reached.new j ≡ (has_member reached.old j || list_any (λ m. (m * residue) % exponent == j) mults.now) }
 {
     for m in mults {
         let product = u32::from(*m) * u32::from(residue) % u32::from(exponent);
-        reached[product as usize] = true;
+        reached.insert(product as u8);
     }
 }

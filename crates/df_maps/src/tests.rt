@@ -1,5 +1,5 @@
 // What no clause says: that each call succeeds, and values worked out by hand.
-ghost use Rattle.df_subsets.specs.Blocks.{IsBlock};
+ghost use Rattle.df_lists.specs.NumberSets.{IsSet};
 ghost use Rattle.df_maps.specs.FullMaps.{point_count};
 
 use super::Maps;
@@ -26,7 +26,7 @@ fn cyclic(rt: &impl Abort, order: u16, mult: u16, fixed: u8) -> Maps {
 
 // The block that stands at a place among those of its size.
 fn placed(rt: &impl Abort, maps: &Maps, size: u8, place: u128) -> Block
-    ensures { IsBlock (point_count maps.now) result }
+    ensures { IsSet (point_count maps.now) result }
 {
     assert!(rt; 1 <= size);
     assert!(rt; size <= maps.points());

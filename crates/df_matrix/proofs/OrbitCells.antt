@@ -10,12 +10,12 @@ use Rattle.df_lists.proofs.MemberLaws.{In-filter_gives}
 use Rattle.df_lists.proofs.ListPlaces.{In-slice_get}
 use Rattle.df_subsets.specs.Blocks.{before}
 use Rattle.df_subsets.specs.Subsets.{choose}
-use Rattle.df_acting.specs.Earliest.{is_earliest}
+use Rattle.df_acting.specs.Representatives.{is_representative}
 use Rattle.df_maps.specs.FullMaps.{full_maps, image}
 use Rattle.df_lang.specs.Problems.{Stated, IsStated}
 use Rattle.df_walk.specs.declared.Cell.{Cell}
 use Rattle.df_walk.specs.Systems.{AreCells, entry_of}
-use Rattle.df_kramer_mesner.specs.OrbitSystems.{maps_of_problem, all_pairs, all_blocks, pairs_of, pairs_within, row_size, orbit_size, pair_entry}
+use Rattle.df_kramer_mesner.specs.OrbitSystems.{maps_of_problem, all_pairs, all_blocks, pairs_of, pairs_within, row_size, orbit_size, orbit_cover}
 use Rattle.df_kramer_mesner.specs.Laws.{EntriesAreQuotients, CellsAreTold, IsQuotient}
 use Rattle.df_matrix.specs.MatrixParts.{AreRowsOf, quotient_cell, pair_cells}
 use Rattle.df_matrix.proofs.CellEntries.{entry_at, entry_changed}
@@ -33,23 +33,23 @@ module _ (quotients : EntriesAreQuotients) (told : CellsAreTold) (s : Stated) (i
 
   law : (row : ℕ) → row < length (pairs_of s) → IsQuotient s b (get_or (pairs_of s) row [])
   law row h = quotients s is b (get_or (pairs_of s) row []) member
-      ((In-filter_gives (is_earliest before (image (maps_of_problem s)) (full_maps (maps_of_problem s))) (all_pairs s) (get_or (pairs_of s) row []) (In-slice_get (pairs_of s) row (get_or (pairs_of s) row []) (slice_get-get_or (pairs_of s) row [] h))).0)
+      ((In-filter_gives (is_representative before (image (maps_of_problem s)) (full_maps (maps_of_problem s))) (all_pairs s) (get_or (pairs_of s) row []) (In-slice_get (pairs_of s) row (get_or (pairs_of s) row []) (slice_get-get_or (pairs_of s) row [] h))).0)
 
   within : (row : ℕ) → row < length (pairs_of s) → entry_of tally row ≡ pairs_within s b (get_or (pairs_of s) row [])
   within row h = T.tally row ∙ listed.tally row (get_or (pairs_of s) row []) (slice_get-get_or (pairs_of s) row [] h)
 
   -- the quotient is the entry
-  entry : (row : ℕ) → row < length (pairs_of s) → quotient row (entry_of tally row) ≡ pair_entry s b (get_or (pairs_of s) row [])
+  entry : (row : ℕ) → row < length (pairs_of s) → quotient row (entry_of tally row) ≡ orbit_cover s b (get_or (pairs_of s) row [])
   entry row h =
       let q = law row h in
       ap (λ n. (size * n) / row_size s (get_or (pairs_of s) row [])) (within row h)
       ∙ ap (λ n. (n * pairs_within s b (get_or (pairs_of s) row [])) / row_size s (get_or (pairs_of s) row [])) sized
       ∙ sym q.quotient
 
-  positive : (row : ℕ) → row < length (pairs_of s) → 0 < entry_of tally row → 0 < pair_entry s b (get_or (pairs_of s) row [])
+  positive : (row : ℕ) → row < length (pairs_of s) → 0 < entry_of tally row → 0 < orbit_cover s b (get_or (pairs_of s) row [])
   positive row h more =
       let q = law row h in
-      go (pair_entry s b (get_or (pairs_of s) row [])) q.product
+      go (orbit_cover s b (get_or (pairs_of s) row [])) q.product
     where
       go : (e : ℕ) → e * row_size s (get_or (pairs_of s) row []) ≡ orbit_size s b * pairs_within s b (get_or (pairs_of s) row []) → 0 < e
       go zero p =
@@ -81,5 +81,5 @@ module _ (quotients : EntriesAreQuotients) (told : CellsAreTold) (s : Stated) (i
       at k d h = get_or-map (quotient_cell s size) tally k d d h
 
   pub quotients_are : map (quotient_cell s size) tally ≡ pair_cells s b
-  quotients_are = told (length (pairs_of s)) (map (quotient_cell s size) tally) (map (pair_entry s b) (pairs_of s)) (length-map (pairs_of s) (pair_entry s b)) quotients_are_cells
-      (λ row h. entry_changed quotient none (length (pairs_of s)) row tally are ∙ entry row h ∙ sym (get_or-map (pair_entry s b) (pairs_of s) row [] 0 h))
+  quotients_are = told (length (pairs_of s)) (map (quotient_cell s size) tally) (map (orbit_cover s b) (pairs_of s)) (length-map (pairs_of s) (orbit_cover s b)) quotients_are_cells
+      (λ row h. entry_changed quotient none (length (pairs_of s)) row tally are ∙ entry row h ∙ sym (get_or-map (orbit_cover s b) (pairs_of s) row [] 0 h))

@@ -2,7 +2,7 @@
 use Rattle.std.proofs.Common.{◌≡◌, ℕ, zero, suc, ◌+◌, ◌-◌, ◌*◌, ◌<◌, ◌≤◌, ◌++◌, map, List, [], ◌∷◌, length, take, drop, get_or, refl, sym, ap, ap₂, ◌∙◌, arith, length-append, append-nil, mul-le-mul}
 use Rattle.std.proofs.lemmas.List.{length-map, append_assoc, get_or_read, drop_more, take_rest}
 use Rattle.std.proofs.lemmas.Simd.{map-map}
-use Rattle.df_subsets.specs.Blocks.{IsBlock, Rises}
+use Rattle.df_lists.specs.NumberSets.{IsSet, Rises}
 use Rattle.df_subsets.specs.Subsets.{choose}
 use Rattle.df_matrix.specs.MatrixParts.{pairs_before}
 
@@ -41,7 +41,7 @@ pairs_few k b h =
     omega (arith, pairs_bound k b, e)
 
 -- what follows in a block is a block
-pub block_drop : (low v k : ℕ) (b : List ℕ) → Rises low v b → IsBlock v (drop k b)
+pub block_drop : (low v k : ℕ) (b : List ℕ) → Rises low v b → IsSet v (drop k b)
 block_drop low v zero [] r = tt
 block_drop low v zero (p ∷ b) (l, w, r) = (omega arith, w, r)
 block_drop low v (suc k) [] r = tt
@@ -54,7 +54,7 @@ rises_at low v zero (p ∷ b) (l, w, r) h = (l, w)
 rises_at low v (suc k) (p ∷ b) (l, w, r) h = let m = rises_at (p + 1) v k b r (omega (arith, h)) in (omega (arith, m.0, l), m.1)
 
 -- a point that is read comes after the first point, and lies below the number of points
-pub read_later : (v p k q : ℕ) (later : List ℕ) → IsBlock v (p ∷ later) → k < length later → q ≡ get_or later k q → (p < q) × (q < v)
+pub read_later : (v p k q : ℕ) (later : List ℕ) → IsSet v (p ∷ later) → k < length later → q ≡ get_or later k q → (p < q) × (q < v)
 read_later v p k q later (l, w, r) h at = let m = rises_at (p + 1) v k later r h in let e = get_or_read later k q h at 0 in (omega (arith, m.0, e), omega (arith, m.1, e))
 
 -- a block from one of its points on, as it is read

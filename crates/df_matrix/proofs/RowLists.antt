@@ -12,7 +12,7 @@ use Rattle.df_lists.proofs.ListTotals.{list_total, count_total}
 use Rattle.df_lists.proofs.TestLaws.{same_tests}
 use Rattle.df_lists.proofs.MemberLaws.{count-append}
 use Rattle.df_lang.specs.Problems.{Stated}
-use Rattle.df_kramer_mesner.specs.OrbitSystems.{alike, pairs_of}
+use Rattle.df_kramer_mesner.specs.OrbitSystems.{in_one_orbit, pairs_of}
 use Rattle.df_matrix.specs.MatrixParts.{AreRowsOf}
 
 pub eqb_turned : (m n : ℕ) → eqb m n ≡ eqb n m
@@ -25,19 +25,19 @@ pub rows_none : (s : Stated) → AreRowsOf s [] []
 rows_none s = record { long = refl; within = λ k d h. absurd (omega arith); tally = λ i pair h. refl }
 
 -- a pair and its row
-pub rows_more : (s : Stated) (done : List (List ℕ)) (rows p : List ℕ) (r : ℕ) → AreRowsOf s done rows → r < length (pairs_of s) → ((i : ℕ) (pair : List ℕ) → slice_get (pairs_of s) i ≡ Some pair → alike s p pair ≡ eqb i r) → AreRowsOf s (done ++ p ∷ []) (rows ++ r ∷ [])
+pub rows_more : (s : Stated) (done : List (List ℕ)) (rows p : List ℕ) (r : ℕ) → AreRowsOf s done rows → r < length (pairs_of s) → ((i : ℕ) (pair : List ℕ) → slice_get (pairs_of s) i ≡ Some pair → in_one_orbit s p pair ≡ eqb i r) → AreRowsOf s (done ++ p ∷ []) (rows ++ r ∷ [])
 rows_more s done rows p r R h own = record {
   long = omega (arith, R.long, length-append rows (r ∷ []), length-append done (p ∷ []));
   within = All-push (λ row. row < length (pairs_of s)) rows r R.within h;
   tally = λ i pair at.
       count-append (λ row. eqb row i) rows (r ∷ [])
-      ∙ ap₂ (λ m n. m + n) (R.tally i pair at) (count_one (λ row. eqb row i) r ∙ ap one (eqb_turned r i ∙ sym (own i pair at)) ∙ sym (count_one (λ q. alike s q pair) p))
-      ∙ sym (count-append (λ q. alike s q pair) done (p ∷ []));
+      ∙ ap₂ (λ m n. m + n) (R.tally i pair at) (count_one (λ row. eqb row i) r ∙ ap one (eqb_turned r i ∙ sym (own i pair at)) ∙ sym (count_one (λ q. in_one_orbit s q pair) p))
+      ∙ sym (count-append (λ q. in_one_orbit s q pair) done (p ∷ []));
 }
 
 -- the pairs of a point and one point more
 pub rows_next : (s : Stated) (done : List (List ℕ)) (rows later : List ℕ) (p k q r : ℕ) → k < length later → q ≡ get_or later k 0 → AreRowsOf s (done ++ map (λ q. p ∷ q ∷ []) (take k later)) rows → r < length (pairs_of s)
-    → ((i : ℕ) (pair : List ℕ) → slice_get (pairs_of s) i ≡ Some pair → alike s (p ∷ q ∷ []) pair ≡ eqb i r) → AreRowsOf s (done ++ map (λ q. p ∷ q ∷ []) (take (k + 1) later)) (rows ++ r ∷ [])
+    → ((i : ℕ) (pair : List ℕ) → slice_get (pairs_of s) i ≡ Some pair → in_one_orbit s (p ∷ q ∷ []) pair ≡ eqb i r) → AreRowsOf s (done ++ map (λ q. p ∷ q ∷ []) (take (k + 1) later)) (rows ++ r ∷ [])
 rows_next s done rows later p k q r within at R h own =
     let e = ap (map (λ q. p ∷ q ∷ [])) (take_more later k 0 within) ∙ map-append (λ q. p ∷ q ∷ []) (take k later) (get_or later k 0 ∷ []) ∙ ap (λ q. map (λ q. p ∷ q ∷ []) (take k later) ++ (p ∷ q ∷ []) ∷ []) (sym at) in
     subst (λ l. AreRowsOf s l (rows ++ r ∷ [])) (append_assoc done (map (λ q. p ∷ q ∷ []) (take k later)) ((p ∷ q ∷ []) ∷ []) ∙ ap (λ l. done ++ l) (sym e)) (rows_more s (done ++ map (λ q. p ∷ q ∷ []) (take k later)) rows (p ∷ q ∷ []) r R h own)

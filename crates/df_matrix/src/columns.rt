@@ -4,7 +4,7 @@ ghost use Rattle.std.specs.List.{range_with_len};
 ghost use Rattle.std.specs.List.Sorted.{IsStrictlyIncreasing};
 ghost use Rattle.df_lists.specs.Membership.{In};
 ghost use Rattle.df_lang.specs.Problems.{point_count, IsBlock, IsStated};
-ghost use Rattle.df_kramer_mesner.specs.OrbitSystems.{pairs_of, orbits_of, needed_of, pair_target, targets_of as all_targets, has_alike, is_kept, orbit_system, orbit_at, cells_of};
+ghost use Rattle.df_kramer_mesner.specs.OrbitSystems.{pairs_of, orbits_of, needed_of, pair_target, targets_of as all_targets, has_in_orbit, is_kept, orbit_system, orbit_at, cells_of};
 ghost use Rattle.df_matrix.specs.MatrixParts.{needed_places, kept_places};
 
 use crate::OutOfMemory;
@@ -32,7 +32,7 @@ pub fn marked(
     blocks: &[Block],
 ) -> Result<Vec<bool>, OutOfMemory>
     requires { All (IsBlock (point_count orbits.now) orbits.now.sizes) blocks.now }
-    ensures { IfOk result (λ marks. marks.items ≡ map (has_alike orbits.now blocks.now) (orbits_of orbits.now)) }
+    ensures { IfOk result (λ marks. marks.items ≡ map (has_in_orbit orbits.now blocks.now) (orbits_of orbits.now)) }
 {
     let mut marks = no_marks(alloc, orbits.orbit_count())?;
     for block in blocks {
@@ -88,7 +88,7 @@ pub fn targets_of(
 fn keeps(orbits: &ProblemOrbits, targets: &[u32], forbidden: &[bool], orbit: usize) -> bool
     requires orbit { orbit < length (orbits_of orbits.now) }
     requires targets { targets.now ≡ all_targets orbits.now }
-    requires forbidden { forbidden.now ≡ map (has_alike orbits.now orbits.now.forbidden) (orbits_of orbits.now) }
+    requires forbidden { forbidden.now ≡ map (has_in_orbit orbits.now orbits.now.forbidden) (orbits_of orbits.now) }
     ensures { result ≡ is_kept orbits.now (orbit_at orbits.now orbit) }
 {
     rows_are_pairs_and_needed();
@@ -107,7 +107,7 @@ pub fn kept_of(
     forbidden: &[bool],
 ) -> Result<Vec<u32>, OutOfMemory>
     requires targets { targets.now ≡ all_targets orbits.now }
-    requires forbidden { forbidden.now ≡ map (has_alike orbits.now orbits.now.forbidden) (orbits_of orbits.now) }
+    requires forbidden { forbidden.now ≡ map (has_in_orbit orbits.now orbits.now.forbidden) (orbits_of orbits.now) }
     ensures { IfOk result (λ kept. kept.items ≡ kept_places orbits.now) }
 {
     let mut kept = Vec::new(alloc);

@@ -4,13 +4,13 @@
 ghost use Rattle.std.specs.Prelude.{◌≡◌, ◌==◌, ◌<◌, ◌≤◌, ◌∷◌, [], ℕ, List, length, slice_get, All, Some, None, Err, IfOk, IfErr, IsOk};
 ghost use Rattle.std.specs.List.Sorted.{IsStrictlyIncreasing};
 ghost use Rattle.df_lists.specs.Membership.{In};
-ghost use Rattle.df_subsets.specs.Blocks.{IsBlock};
-ghost use Rattle.df_lang.specs.Problems.{point_count, IsStated, IsBlock as IsSizedBlock};
+ghost use Rattle.df_lists.specs.NumberSets.{IsSet};
+ghost use Rattle.df_lang.specs.Problems.{point_count, IsStated, IsBlock};
 ghost use Rattle.df_maps.specs.Laws.{AreGroup};
 ghost use Rattle.df_orbits.specs.declared.orbits.OrbitError.{OrbitError as OrbitErrorValue};
 ghost use Rattle.df_orbits.specs.declared.orbits.OrbitError.TheVariants.{OutOfMemory as OutOfMemoryError};
-ghost use Rattle.df_orbits.specs.OrbitClasses.{pair_classes, block_classes, first_members};
-ghost use Rattle.df_kramer_mesner.specs.OrbitSystems.{maps_of_problem, alike, all_blocks, pairs_of, orbits_of, pair_at, orbit_at, row_number, orbit_number, row_size, orbit_size};
+ghost use Rattle.df_orbits.specs.Orbits.{pair_orbits, block_orbits, listed_representatives};
+ghost use Rattle.df_kramer_mesner.specs.OrbitSystems.{maps_of_problem, in_one_orbit, all_blocks, pairs_of, orbits_of, pair_at, orbit_at, row_number, orbit_number, row_size, orbit_size};
 ghost use Rattle.df_matrix.specs.Limits.{subset_limit, subset_limit_of, block_count, only_size};
 
 use crate::OutOfMemory;
@@ -154,8 +154,8 @@ impl ProblemOrbits {
 
     /// The orbits of pairs of points.
     pub fn pairs(&self) -> &Orbits
-        ensures orbits { result.now ≡ pair_classes (maps_of_problem self.now) }
-        ensures short { All (λ (pair : List ℕ). length pair ≤ 16) (first_members result.now) }
+        ensures orbits { result.now ≡ pair_orbits (maps_of_problem self.now) }
+        ensures short { All (λ (pair : List ℕ). length pair ≤ 16) (listed_representatives result.now) }
     {
         numbers_are_few();
         &self.pairs
@@ -163,8 +163,8 @@ impl ProblemOrbits {
 
     /// The orbits of all blocks of the stated sizes.
     pub fn blocks(&self) -> &Orbits
-        ensures orbits { result.now ≡ block_classes (maps_of_problem self.now) self.now.sizes }
-        ensures short { All (λ (block : List ℕ). length block ≤ 16) (first_members result.now) }
+        ensures orbits { result.now ≡ block_orbits (maps_of_problem self.now) self.now.sizes }
+        ensures short { All (λ (block : List ℕ). length block ≤ 16) (listed_representatives result.now) }
     {
         numbers_are_few();
         &self.blocks
@@ -198,7 +198,7 @@ impl ProblemOrbits {
         requires points { q < point_count self.now }
         ensures number { result ≡ row_number self.now (p ∷ q ∷ []) }
         ensures within { result < length (pairs_of self.now) }
-        ensures class { (i : ℕ) (pair : List ℕ) → slice_get (pairs_of self.now) i ≡ Some pair → alike self.now (p ∷ q ∷ []) pair ≡ (i == result) }
+        ensures orbit { (i : ℕ) (pair : List ℕ) → slice_get (pairs_of self.now) i ≡ Some pair → in_one_orbit self.now (p ∷ q ∷ []) pair ≡ (i == result) }
     {
         numbers_are_few();
         self.numbers.number_of(p, q) as u32
@@ -230,7 +230,7 @@ impl ProblemOrbits {
         ensures orbit { result ≡ orbit_at self.now orbit }
         ensures member { In (all_blocks self.now) result }
         ensures stated { IsStated self.now }
-        ensures block { IsBlock (point_count self.now) result }
+        ensures block { IsSet (point_count self.now) result }
         ensures size { length result ≤ 16 }
     {
         numbers_are_few();
@@ -251,10 +251,10 @@ impl ProblemOrbits {
 
     /// The number of the orbit of a block, which has one of the stated sizes and lies below the number of points.
     pub fn orbit_of(&self, block: &Block) -> usize
-        requires { IsSizedBlock (point_count self.now) self.now.sizes block.now }
+        requires { IsBlock (point_count self.now) self.now.sizes block.now }
         ensures number { result ≡ orbit_number self.now block.now }
         ensures within { result < length (orbits_of self.now) }
-        ensures class { (i : ℕ) (b : List ℕ) → slice_get (orbits_of self.now) i ≡ Some b → alike self.now block.now b ≡ (i == result) }
+        ensures orbit { (i : ℕ) (b : List ℕ) → slice_get (orbits_of self.now) i ≡ Some b → in_one_orbit self.now block.now b ≡ (i == result) }
     {
         blocks_are_sets();
         self.blocks.number_of(&self.maps, block)

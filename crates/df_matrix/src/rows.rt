@@ -2,7 +2,7 @@
 ghost use Rattle.std.specs.Prelude.{◌≡◌, ◌+◌, ◌≤◌, [], ◌∷◌, ◌++◌, ℕ, List, length, map};
 ghost use Rattle.std.specs.List.Sorted.{IsNonDecreasing};
 ghost use Rattle.arrayvec.specs.ArrayVec.{array_vec_len};
-ghost use Rattle.df_subsets.specs.Blocks.{IsBlock};
+ghost use Rattle.df_lists.specs.NumberSets.{IsSet};
 ghost use Rattle.df_subsets.specs.Subsets.{choose};
 ghost use Rattle.df_lang.specs.Problems.{point_count};
 ghost use Rattle.df_matrix.specs.MatrixParts.{AreRowsOf};
@@ -16,7 +16,7 @@ pub type Rows = ArrayVec<u32, 120>;
 
 // Adds the rows of the pairs of a point and each of those that follow it in a block.
 fn add_rows(rows: &mut Rows, orbits: &ProblemOrbits, p: Point, later: &[Point])
-    requires block { IsBlock (point_count orbits.now) (p ∷ later.now) }
+    requires block { IsSet (point_count orbits.now) (p ∷ later.now) }
     requires room { array_vec_len rows.old + length later.now ≤ 120 }
     ensures { (done : List (List ℕ)) → AreRowsOf orbits.now done rows.old.items → AreRowsOf orbits.now (done ++ map (λ q. p ∷ q ∷ []) later.now) rows.new.items }
 {
@@ -27,7 +27,7 @@ fn add_rows(rows: &mut Rows, orbits: &ProblemOrbits, p: Point, later: &[Point])
 
 // The rows of a block's pairs, in the order of the pairs.
 fn listed_rows(orbits: &ProblemOrbits, block: &Block) -> Rows
-    requires block { IsBlock (point_count orbits.now) block.now }
+    requires block { IsSet (point_count orbits.now) block.now }
     requires size { length block.now ≤ 16 }
     ensures { AreRowsOf orbits.now (choose block.now 2) result.items }
 {
@@ -41,7 +41,7 @@ fn listed_rows(orbits: &ProblemOrbits, block: &Block) -> Rows
 
 /// The rows of the pairs of a block's points, each as often as pairs lie in it, in order.
 pub fn sorted_rows(orbits: &ProblemOrbits, block: &Block) -> Rows
-    requires block { IsBlock (point_count orbits.now) block.now }
+    requires block { IsSet (point_count orbits.now) block.now }
     requires size { length block.now ≤ 16 }
     ensures rows { AreRowsOf orbits.now (choose block.now 2) result.items }
     ensures sorted { IsNonDecreasing result.items }

@@ -2,7 +2,7 @@
 use Rattle.std.proofs.Common.{◌≡◌, ℕ, suc, zero, ◌+◌, ◌-◌, ◌*◌, ◌/◌, ◌%◌, ◌<◌, ◌≤◌, ◌∷◌, List, [], length, get_or, drop, sym, ap, ap₂, ◌∙◌, subst, arith}
 use Rattle.std.proofs.lemmas.List.{drop_more, drop_all, length-drop}
 use Rattle.std.proofs.lemmas.Nat.{div-mul-add, mod-mul-add, mul-add-lt}
-use Rattle.df_subsets.specs.Blocks.{Rises, IsBlock}
+use Rattle.df_lists.specs.NumberSets.{Rises, IsSet}
 use Rattle.df_subsets.specs.Subsets.{binomial, rank}
 use Rattle.df_lists.proofs.RisingLists.{point_below}
 use Rattle.df_subsets.proofs.Places.{later, rank_later}
@@ -21,7 +21,7 @@ later_more v b i x h at =
     let long : length (x ∷ drop (i + 1) b) ≡ length b - i = sym (ap length split) ∙ length-drop i b in
     ap (later v) split ∙ ap (λ n. binomial (v - 1 - x) n + later v (drop (i + 1) b)) long
 
-module _ (v k all : ℕ) (table : List ℕ) (is : AreLater v k all table) (b : List ℕ) (block : IsBlock v b) (size : length b ≡ k) where
+module _ (v k all : ℕ) (table : List ℕ) (is : AreLater v k all table) (b : List ℕ) (block : IsSet v b) (size : length b ≡ k) where
   module _ (i x : ℕ) (h : i < length b) (at : x ≡ get_or b i x) where
     below : x < v
     below = subst (λ y. y < v) (sym at) (point_below 0 v b i x block h)

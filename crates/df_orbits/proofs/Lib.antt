@@ -1,11 +1,11 @@
-pub mod ClassNumbers
-pub mod FoundClasses
+pub mod OrbitNumbers
+pub mod FoundOrbits
 pub mod MarkLaws
 pub mod OrbitLists
 pub mod PairCounts
 pub mod PlaceTests
 pub mod SizeSums
-pub mod SizedClasses
+pub mod SizedOrbits
 pub mod ListedOrbits
 pub mod NumberedMaps
 pub mod PairPlaces

@@ -8,7 +8,6 @@ use Rattle.df_lists.specs.NumberSets.{has_member, set_of}
 use Rattle.df_lists.proofs.MemberLaws.{In-filter_gives}
 use Rattle.df_lists.proofs.TestLaws.{same_tests, filter_agree, has_gives}
 use Rattle.df_subsets.specs.Subsets.{same_list}
-use Rattle.df_subsets.proofs.BlockLaws.{block_is_set}
 use Rattle.df_subsets.proofs.SubsetLists.{same_list-gives, same_list-self}
 
 -- one of two points
@@ -31,7 +30,7 @@ same_pair : (v a c p q : ℕ) → p < q → q < v → same_list (set_of v (a ∷
 same_pair v a c p q l h = same_tests (same_list (set_of v (a ∷ c ∷ [])) (p ∷ q ∷ [])) ((eqb a p && eqb c q) || (eqb c p && eqb a q)) apart together
   where
     pair : set_of v (p ∷ q ∷ []) ≡ p ∷ q ∷ []
-    pair = sym (block_is_set v (p ∷ q ∷ []) (omega arith, omega (arith, l, h), (omega (arith, l), h, tt)))
+    pair = sym (set_picked v (p ∷ q ∷ []) (omega arith, omega (arith, l, h), (omega (arith, l), h, tt)))
 
     has : set_of v (a ∷ c ∷ []) ≡ p ∷ q ∷ [] → (r : ℕ) → In (p ∷ q ∷ []) r → (a ≡ r) ⊎ (c ≡ r)
     has e r i = two_cases a c r (has_gives (a ∷ c ∷ []) r (In-filter_gives (has_member (a ∷ c ∷ [])) (range_with_len 0 v) r (subst (λ x. In x r) (sym e) i)).1)

@@ -14,7 +14,7 @@ use Rattle.df_subsets.specs.Subsets.{points, nonempty, binomial}
 use Rattle.df_subsets.proofs.SubsetLists.{subsets_long}
 use Rattle.df_subsets.proofs.SizedLists.{choose_is}
 use Rattle.df_lists.proofs.TestLaws.{any_gives}
-use Rattle.df_orbits.proofs.SizedClasses.{AreDistinct}
+use Rattle.df_orbits.proofs.SizedOrbits.{AreDistinct}
 
 length_nonempty : (ps : List ℕ) → length (nonempty ps) + 1 ≡ 2 ^ length ps
 length_nonempty [] = refl

@@ -1,4 +1,4 @@
-pub mod OrbitClasses
+pub mod Orbits
 pub mod Laws
 pub mod MarkedPlaces
 pub mod LookupTables

@@ -4,7 +4,7 @@ use Rattle.df_subsets.specs.Subsets.{binomial}
 use Rattle.df_maps.specs.FullMaps.{MapGroup, full_maps, map_number, carried, point_count}
 use Rattle.df_maps.specs.Laws.{AreGroup}
 use Rattle.df_orbits.specs.declared.orbits.TheConstants.{MOST_SUMMED}
-use Rattle.df_orbits.specs.OrbitClasses.{are_alike, earliest_alike, pair_classes, first_members, orbit_number}
+use Rattle.df_orbits.specs.Orbits.{are_in_one_orbit, representative_of, pair_orbits, listed_representatives, orbit_number}
 
 -- the image of point p under map number i stands at place i * points + p
 pub record AreImages (M : MapGroup) (points count : ℕ) (table : List ℕ) : Type 0 where
@@ -28,14 +28,14 @@ pub record AreLater (points size all : ℕ) (table : List ℕ) : Type 0 where
   pub long : length table ≡ (size + 1) * points
   pub later : (j p : ℕ) → j ≤ size → p < points → j ≤ p + 1 → slice_index table (j * points + p) ≡ binomial (points - 1 - p) (size - j)
 
--- r is the number of the class of b among the classes of pairs
+-- r is the number of the orbit of b among the orbits of pairs
 pub record IsPairNumber (M : MapGroup) (b : List ℕ) (r : ℕ) : Type 0 where
-  pub number : r ≡ orbit_number M (pair_classes M) b
-  pub within : r < length (pair_classes M)
-  pub earliest : slice_get (first_members (pair_classes M)) r ≡ Some (earliest_alike M b)
-  pub class : (i : ℕ) (c : List ℕ) → slice_get (first_members (pair_classes M)) i ≡ Some c → are_alike M b c ≡ (i == r)
+  pub number : r ≡ orbit_number M (pair_orbits M) b
+  pub within : r < length (pair_orbits M)
+  pub representative : slice_get (listed_representatives (pair_orbits M)) r ≡ Some (representative_of M b)
+  pub orbit : (i : ℕ) (c : List ℕ) → slice_get (listed_representatives (pair_orbits M)) i ≡ Some c → are_in_one_orbit M b c ≡ (i == r)
 
--- the number of the class of the pair of p and q, where p is below q, stands at place p * points + q
+-- the number of the orbit of the pair of p and q, where p is below q, stands at place p * points + q
 pub record AreNumbered (M : MapGroup) (points : ℕ) (numbers : List ℕ) : Type 0 where
   pub points_are : points ≡ point_count M
   pub long : length numbers ≡ points * points

@@ -1,6 +1,6 @@
-// Lists of classes against a plain filter, which computes images by remainders alone and looks at sets of points as numbers.
+// Lists of orbits against a plain filter, which computes images by remainders alone and looks at sets of points as numbers.
 ghost use Rattle.std.specs.Prelude.{◌≡◌, ◌≤◌, ◌<◌, length};
-ghost use Rattle.df_subsets.specs.Blocks.{IsBlock};
+ghost use Rattle.df_lists.specs.NumberSets.{IsSet};
 ghost use Rattle.df_maps.specs.FullMaps.{point_count};
 
 use crate::{Images, PairNumbers, orbits_of_pairs, pair_orbits, subset_orbits};
@@ -140,7 +140,7 @@ fn made(shape: &Shape, fixed: u8, mults: (u16, u16), generators: (u8, u8)) -> Op
 
 // The block that stands at a place among those of its size.
 fn placed(rt: &impl Abort, maps: &Maps, size: u8, place: u128) -> Block
-    ensures block { IsBlock (point_count maps.now) result }
+    ensures block { IsSet (point_count maps.now) result }
     ensures size { length result ≡ size }
 {
     assert!(rt; 1 <= size);
@@ -149,14 +149,14 @@ fn placed(rt: &impl Abort, maps: &Maps, size: u8, place: u128) -> Block
     unrank(maps.points(), size, place)
 }
 
-// The classes of the blocks of one size are those that the filter keeps, in its order, and each block has the number of its class.
+// The orbits of the blocks of one size are those that the filter keeps, in its order, and each block has the number of its orbit.
 fn compare(rt: &impl Abort, alloc: Global, maps: &Maps, plain: &Plain, size: u8) {
     let points = maps.points();
     assert!(rt; 2 <= size);
     assert!(rt; size <= points);
     assert!(rt; points <= 16);
     let orbits = subset_orbits(alloc, maps, size).expect(rt, "ample memory");
-    let mut firsts = Vec::new(alloc);
+    let mut representatives = Vec::new(alloc);
     let mut place: u128 = 0;
     for number in (0..1u32 << points).rev() {
         let set = number.reverse_bits() >> (32 - points);
@@ -169,17 +169,17 @@ fn compare(rt: &impl Abort, alloc: Global, maps: &Maps, plain: &Plain, size: u8)
         let images = plain.images(rt, alloc, set);
         let first = earliest(images.as_slice());
         if first == set {
-            assert!(rt; firsts.len() < orbits.len());
-            assert!(rt; orbits.rep(firsts.len()) == block);
-            assert!(rt; orbits.size(firsts.len()) as usize == images.len());
-            firsts.push(set).expect(rt, "memory");
+            assert!(rt; representatives.len() < orbits.len());
+            assert!(rt; orbits.rep(representatives.len()) == block);
+            assert!(rt; orbits.size(representatives.len()) as usize == images.len());
+            representatives.push(set).expect(rt, "memory");
         }
-        assert!(rt; firsts.get(orbits.number_of(maps, &block)) == Some(&first));
+        assert!(rt; representatives.get(orbits.number_of(maps, &block)) == Some(&first));
     }
-    assert!(rt; firsts.len() == orbits.len());
+    assert!(rt; representatives.len() == orbits.len());
 }
 
-// The numbers of pairs are those that the list of classes tells.
+// The numbers of pairs are those that the list of orbits tells.
 fn compare_pairs(rt: &impl Abort, alloc: Global, maps: &Maps) {
     let pairs = pair_orbits(alloc, maps).expect(rt, "ample memory");
     let images = Images::new(alloc, maps).expect(rt, "ample memory");
@@ -211,7 +211,7 @@ fn compare_sizes(rt: &impl Abort, alloc: Global, maps: &Maps, plain: &Plain) -> 
 
 // Cyclic groups and products of two, no shifts, those of a proper subgroup and all, up to two fixed points, one multiplier and two.
 #[test]
-fn classes_are_those_of_a_plain_filter(rt: HostRuntime) {
+fn orbits_are_those_of_a_plain_filter(rt: HostRuntime) {
     let alloc = rt.alloc();
     let mut compared: u32 = 0;
     for (first, second) in [(5, 1), (6, 1), (7, 1), (8, 1), (2, 2), (3, 3), (2, 4)] {

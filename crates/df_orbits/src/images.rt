@@ -1,6 +1,6 @@
 // The images of all points under all maps, one byte each.
 ghost use Rattle.std.specs.Prelude.{◌≡◌, ◌<◌, ◌≤◌, length, IfOk};
-ghost use Rattle.df_subsets.specs.Blocks.{IsBlock};
+ghost use Rattle.df_lists.specs.NumberSets.{IsSet};
 ghost use Rattle.df_maps.specs.FullMaps.{point_count, full_maps, map_number, carried, image};
 ghost use Rattle.df_maps.specs.Laws.{AreGroup};
 
@@ -93,9 +93,9 @@ impl Images {
     /// The image under map number `i` of the block that has these points, increasing.
     pub fn image_block(&self, i: u32, points: &[Point]) -> Block
         requires number { i < length (full_maps self.now) }
-        requires block { IsBlock (point_count self.now) points.now }
+        requires block { IsSet (point_count self.now) points.now }
         ensures image { result ≡ image self.now (map_number self.now i) points.now }
-        ensures block { IsBlock (point_count self.now) result }
+        ensures block { IsSet (point_count self.now) result }
         ensures size { length result ≡ length points.now }
     {
         // Brings in that the maps are a group, so that no two points have one image.

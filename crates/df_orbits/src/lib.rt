@@ -1,6 +1,6 @@
 //! The orbits of pairs and of blocks under a group of maps x -> mx + h, numbered by their representatives, with their sizes.
 //! It stands on df_maps and df_subsets, and finds an orbit by marks at the places of the images of its representative, one bit a block.
-//! The crates above see an `Orbits` as the list of representatives and sizes, and cite the words of specs/OrbitClasses.antt, which are stated by single maps alone.
+//! The crates above see an `Orbits` as the list of representatives and sizes, and cite the words of specs/Orbits.antt, which are stated by single maps alone.
 //! Laws for the rooms above: proofs/ListedOrbits.
 #![tactic(auto)]
 

@@ -1,9 +1,9 @@
 // The numbers of the orbits of pairs of points, in a table.
 ghost use Rattle.std.specs.Prelude.{◌≡◌, ◌<◌, ◌≤◌, ◌*◌, ◌+◌, ◌==◌, ◌∷◌, [], ℕ, List, length, slice_get, slice_index, Some, IfOk, if◌then◌else◌};
-ghost use Rattle.df_subsets.specs.Blocks.{IsBlock};
+ghost use Rattle.df_lists.specs.NumberSets.{IsSet};
 ghost use Rattle.df_maps.specs.FullMaps.{point_count};
 ghost use Rattle.df_maps.specs.Laws.{AreGroup};
-ghost use Rattle.df_orbits.specs.OrbitClasses.{are_alike, pair_classes, first_members, earliest_alike, orbit_number};
+ghost use Rattle.df_orbits.specs.Orbits.{are_in_one_orbit, pair_orbits, listed_representatives, representative_of, orbit_number};
 
 use crate::OutOfMemory;
 use crate::images::Images;
@@ -36,14 +36,14 @@ impl Model for PairNumbers {
 impl PairNumbers {
     /// The numbers of the orbits `pairs`, which are those of pairs under the maps of this table. They take at most 64 KiB.
     pub fn new(alloc: Global, images: &Images, pairs: &Orbits) -> Result<PairNumbers, OutOfMemory>
-        requires classes { pairs.now ≡ pair_classes images.now }
+        requires orbits { pairs.now ≡ pair_orbits images.now }
         ensures { IfOk result (λ numbers. numbers ≡ images.now) }
     {
         let points = images.points();
         let width = usize::from(points);
         let mut numbers = vec![in alloc; 0; width * width]?;
         for i in 0..pairs.len() {
-            number_class(&mut numbers, images, &pairs.rep(i), i as u32);
+            number_orbit(&mut numbers, images, &pairs.rep(i), i as u32);
         }
         Ok(PairNumbers {
             maps: images.maps(),
@@ -56,23 +56,23 @@ impl PairNumbers {
     pub fn number_of(&self, p: Point, q: Point) -> usize
         requires order { p < q }
         requires points { q < point_count self.now }
-        ensures number { result ≡ orbit_number self.now (pair_classes self.now) (p ∷ q ∷ []) }
-        ensures within { result < length (pair_classes self.now) }
-        ensures earliest { slice_get (first_members (pair_classes self.now)) result ≡ Some (earliest_alike self.now (p ∷ q ∷ [])) }
-        ensures class { (i : ℕ) (b : List ℕ) → slice_get (first_members (pair_classes self.now)) i ≡ Some b → are_alike self.now (p ∷ q ∷ []) b ≡ (i == result) }
+        ensures number { result ≡ orbit_number self.now (pair_orbits self.now) (p ∷ q ∷ []) }
+        ensures within { result < length (pair_orbits self.now) }
+        ensures representative { slice_get (listed_representatives (pair_orbits self.now)) result ≡ Some (representative_of self.now (p ∷ q ∷ [])) }
+        ensures orbit { (i : ℕ) (b : List ℕ) → slice_get (listed_representatives (pair_orbits self.now)) i ≡ Some b → are_in_one_orbit self.now (p ∷ q ∷ []) b ≡ (i == result) }
     {
         self.numbers[usize::from(p.0) * usize::from(self.points) + usize::from(q.0)] as usize
     }
 }
 
 // Writes a number for each image of a pair.
-fn number_class(numbers: &mut [u32], images: &Images, pair: &Block, number: u32)
+fn number_orbit(numbers: &mut [u32], images: &Images, pair: &Block, number: u32)
     requires long { length numbers.old ≡ point_count images.now * point_count images.now }
-    requires pair { IsBlock (point_count images.now) pair.now }
+    requires pair { IsSet (point_count images.now) pair.now }
     requires two { length pair.now ≡ 2 }
     ensures long { length numbers.new ≡ length numbers.old }
     ensures written { (p q : ℕ) → p < q → q < point_count images.now → slice_index numbers.new (p * point_count images.now + q)
-        ≡ (if are_alike images.now pair.now (p ∷ q ∷ []) then number else slice_index numbers.old (p * point_count images.now + q)) }
+        ≡ (if are_in_one_orbit images.now pair.now (p ∷ q ∷ []) then number else slice_index numbers.old (p * point_count images.now + q)) }
 {
     let points = pair.points();
     let width = usize::from(images.points());

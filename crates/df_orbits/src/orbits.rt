@@ -6,11 +6,11 @@
 ghost use Rattle.std.specs.Prelude.{◌≡◌, ◌==◌, ◌||◌, ◌-◌, ◌*◌, ◌<◌, ◌≤◌, ◌∷◌, ◌++◌, [], ℕ, List, length, map, slice_get, slice_index_or, Some, Err, All, IfOk, IfErr, sum_by};
 ghost use Rattle.std.specs.List.Sorted.{IsStrictlyIncreasing};
 ghost use Rattle.df_lists.specs.Membership.{In, count};
-ghost use Rattle.df_subsets.specs.Blocks.{IsBlock};
+ghost use Rattle.df_lists.specs.NumberSets.{IsSet};
 ghost use Rattle.df_subsets.specs.Subsets.{subsets, binomial as binomial_of};
 ghost use Rattle.df_maps.specs.FullMaps.{point_count};
 ghost use Rattle.df_orbits.specs.MarkedPlaces.{is_marked};
-ghost use Rattle.df_orbits.specs.OrbitClasses.{are_alike, class_size, classes_of, pair_classes, block_classes, first_members, class_sizes, earliest_alike, representative_at, size_at, orbit_number};
+ghost use Rattle.df_orbits.specs.Orbits.{are_in_one_orbit, orbit_size_in, orbits_with_sizes, pair_orbits, block_orbits, listed_representatives, orbit_sizes, representative_of, representative_at, size_at, orbit_number};
 ghost use Rattle.df_orbits.specs.declared.orbits.OrbitError.TheVariants.{TooManySubsets, TooManySummed, OutOfMemory as OutOfMemoryError};
 
 use crate::OutOfMemory;
@@ -86,12 +86,12 @@ impl Orbits {
     /// The number of the orbit that a block is in, from 0.
     /// These are the maps that the orbits were made with, and the block has one of the sizes and lies below the number of points.
     pub fn number_of(&self, maps: &Maps, block: &Block) -> usize
-        requires making { (sizes : List ℕ) × (self.now ≡ block_classes maps.now sizes) × In sizes (length block.now) }
-        requires block { IsBlock (point_count maps.now) block.now }
+        requires making { (sizes : List ℕ) × (self.now ≡ block_orbits maps.now sizes) × In sizes (length block.now) }
+        requires block { IsSet (point_count maps.now) block.now }
         ensures number { result ≡ orbit_number maps.now self.now block.now }
         ensures within { result < length self.now }
-        ensures earliest { slice_get (first_members self.now) result ≡ Some (earliest_alike maps.now block.now) }
-        ensures class { (i : ℕ) (b : List ℕ) → slice_get (first_members self.now) i ≡ Some b → are_alike maps.now block.now b ≡ (i == result) }
+        ensures representative { slice_get (listed_representatives self.now) result ≡ Some (representative_of maps.now block.now) }
+        ensures orbit { (i : ℕ) (b : List ℕ) → slice_get (listed_representatives self.now) i ≡ Some b → are_in_one_orbit maps.now block.now b ≡ (i == result) }
     {
         let least = maps.least_image(block);
         let mut low = 0;
@@ -118,8 +118,8 @@ impl From<AllocError> for OrbitError {
 
 /// The orbits of pairs of points.
 pub fn pair_orbits(alloc: Global, maps: &Maps) -> Result<Orbits, OutOfMemory>
-    ensures pairs { IfOk result (λ orbits. orbits ≡ pair_classes maps.now) }
-    ensures sized { IfOk result (λ orbits. orbits ≡ block_classes maps.now (2 ∷ [])) }
+    ensures pairs { IfOk result (λ orbits. orbits ≡ pair_orbits maps.now) }
+    ensures sized { IfOk result (λ orbits. orbits ≡ block_orbits maps.now (2 ∷ [])) }
 {
     let images = Images::new(alloc, maps)?;
     orbits_of_pairs(alloc, &images)
@@ -127,8 +127,8 @@ pub fn pair_orbits(alloc: Global, maps: &Maps) -> Result<Orbits, OutOfMemory>
 
 /// The orbits of pairs of points under the maps of a table that is there already.
 pub fn orbits_of_pairs(alloc: Global, images: &Images) -> Result<Orbits, OutOfMemory>
-    ensures pairs { IfOk result (λ orbits. orbits ≡ pair_classes images.now) }
-    ensures sized { IfOk result (λ orbits. orbits ≡ block_classes images.now (2 ∷ [])) }
+    ensures pairs { IfOk result (λ orbits. orbits ≡ pair_orbits images.now) }
+    ensures sized { IfOk result (λ orbits. orbits ≡ block_orbits images.now (2 ∷ [])) }
 {
     images.points();
     let mut found = Vec::new(alloc);
@@ -141,8 +141,8 @@ pub fn orbits_of_pairs(alloc: Global, images: &Images) -> Result<Orbits, OutOfMe
 pub fn subset_orbits(alloc: Global, maps: &Maps, size: u8) -> Result<Orbits, OrbitError>
     requires some { 2 ≤ size }
     requires within { size ≤ point_count maps.now }
-    ensures blocks { IfOk result (λ orbits. orbits ≡ classes_of maps.now (subsets (point_count maps.now) size)) }
-    ensures sized { IfOk result (λ orbits. orbits ≡ block_classes maps.now (size ∷ [])) }
+    ensures blocks { IfOk result (λ orbits. orbits ≡ orbits_with_sizes maps.now (subsets (point_count maps.now) size)) }
+    ensures sized { IfOk result (λ orbits. orbits ≡ block_orbits maps.now (size ∷ [])) }
     ensures many { MOST_SUBSETS < binomial_of (point_count maps.now) size → result ≡ Err (TooManySubsets (point_count maps.now) size) }
     ensures few { binomial_of (point_count maps.now) size ≤ MOST_SUBSETS → IfErr result (λ e. e ≡ OutOfMemoryError) }
 {
@@ -162,7 +162,7 @@ pub fn sized_orbits(alloc: Global, maps: &Maps, sizes: &[u8]) -> Result<Orbits, 
     requires some { 0 < length sizes.now }
     requires rising { IsStrictlyIncreasing sizes.now }
     requires range { All (λ k. (2 ≤ k) × (k ≤ point_count maps.now)) sizes.now }
-    ensures sized { IfOk result (λ orbits. orbits ≡ block_classes maps.now sizes.now) }
+    ensures sized { IfOk result (λ orbits. orbits ≡ block_orbits maps.now sizes.now) }
     ensures many { MOST_SUMMED < sum_by (binomial_of (point_count maps.now)) sizes.now → result ≡ Err (TooManySummed (point_count maps.now) (sum_by (binomial_of (point_count maps.now)) sizes.now)) }
     ensures few { sum_by (binomial_of (point_count maps.now)) sizes.now ≤ MOST_SUMMED → IfErr result (λ e. e ≡ OutOfMemoryError) }
 {
@@ -185,7 +185,7 @@ pub fn orbits_of_sizes(alloc: Global, images: &Images, sizes: &[u8]) -> Result<O
     requires rising { IsStrictlyIncreasing sizes.now }
     requires range { All (λ k. (2 ≤ k) × (k ≤ point_count images.now)) sizes.now }
     requires few { sum_by (binomial_of (point_count images.now)) sizes.now ≤ MOST_SUMMED }
-    ensures { IfOk result (λ orbits. orbits ≡ block_classes images.now sizes.now) }
+    ensures { IfOk result (λ orbits. orbits ≡ block_orbits images.now sizes.now) }
 {
     images.points();
     let mut found = Vec::new(alloc);
@@ -215,7 +215,7 @@ fn find(alloc: Global, images: &Images, size: u8, found: &mut Vec<Orbit>) -> Res
     requires some { 1 ≤ size }
     requires within { size ≤ point_count images.now }
     requires few { binomial_of (point_count images.now) size ≤ MOST_SUMMED }
-    ensures { IfOk result (λ _. map (λ f. (f.block, f.size)) found.new.items ≡ map (λ f. (f.block, f.size)) found.old.items ++ classes_of images.now (subsets (point_count images.now) size)) }
+    ensures { IfOk result (λ _. map (λ f. (f.block, f.size)) found.new.items ≡ map (λ f. (f.block, f.size)) found.old.items ++ orbits_with_sizes images.now (subsets (point_count images.now) size)) }
 {
     let points = images.points();
     let places = Places::new(alloc, points, size)?;
@@ -237,11 +237,11 @@ fn find(alloc: Global, images: &Images, size: u8, found: &mut Vec<Orbit>) -> Res
 fn stepped(points: u8, block: &Block, place: usize) -> Block
     requires small { points ≤ 128 }
     requires some { 0 < length block.now }
-    requires within { IsBlock points block.now }
+    requires within { IsSet points block.now }
     requires before { slice_get (subsets points (length block.now)) (place - 1) ≡ Some block.now }
     requires below { place < binomial_of points (length block.now) }
     ensures place { slice_get (subsets points (length block.now)) place ≡ Some result }
-    ensures block { IsBlock points result }
+    ensures block { IsSet points result }
     ensures size { length result ≡ length block.now }
 {
     if place == 0 {
@@ -255,13 +255,13 @@ fn stepped(points: u8, block: &Block, place: usize) -> Block
 
 // Marks the places of a block's images, and answers how many different images it has.
 fn mark(marks: &mut Marks, images: &Images, places: &Places, block: &Block) -> u32
-    requires block { IsBlock (point_count images.now) block.now }
+    requires block { IsSet (point_count images.now) block.now }
     requires places { places.now ≡ (point_count images.now, length block.now) }
     requires room { binomial_of (point_count images.now) (length block.now) ≤ 64 * length marks.old }
     ensures room { length marks.new ≡ length marks.old }
     ensures marks { (place : ℕ) → place < binomial_of (point_count images.now) (length block.now) → is_marked marks.new place
-        ≡ (is_marked marks.old place || are_alike images.now block.now (slice_index_or (subsets (point_count images.now) (length block.now)) place [])) }
-    ensures size { result ≡ count (are_alike images.now block.now) (subsets (point_count images.now) (length block.now)) }
+        ≡ (is_marked marks.old place || are_in_one_orbit images.now block.now (slice_index_or (subsets (point_count images.now) (length block.now)) place [])) }
+    ensures size { result ≡ count (are_in_one_orbit images.now block.now) (subsets (point_count images.now) (length block.now)) }
 {
     let points = block.points();
     let mut fixing = 0;

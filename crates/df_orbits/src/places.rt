@@ -2,7 +2,7 @@
 // before one of its points and have a later point in that place; for each point and place the table has how many those are. So
 // the place of a block is found by one look for each of its points, where a rank by its definition takes a sum over all points.
 ghost use Rattle.std.specs.Prelude.{◌≡◌, ◌<◌, ◌≤◌, ◌-◌, ◌+◌, length, slice_get, Some, IfOk};
-ghost use Rattle.df_subsets.specs.Blocks.{IsBlock};
+ghost use Rattle.df_lists.specs.NumberSets.{IsSet};
 ghost use Rattle.df_subsets.specs.Subsets.{subsets, binomial as binomial_of, rank as rank_of};
 
 use crate::OutOfMemory;
@@ -65,7 +65,7 @@ impl Places {
 
     /// The place of a block, from 0.
     pub fn rank(&self, block: &Block) -> usize
-        requires within { IsBlock self.now.0 block.now }
+        requires within { IsSet self.now.0 block.now }
         requires size { length block.now ≡ self.now.1 }
         ensures rank { result ≡ rank_of self.now.0 block.now }
         ensures place { slice_get (subsets self.now.0 self.now.1) result ≡ Some block.now }

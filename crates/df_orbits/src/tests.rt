@@ -53,7 +53,7 @@ fn numbers_pairs_of_seven(rt: HostRuntime) {
     assert_eq!(rt; numbers.number_of(Point(5), Point(6)), 0);
 }
 
-// 35 triples: 0 1 2, 0 1 4 and 0 2 4 go to themselves under a map x -> h - x, so that their classes have 7.
+// 35 triples: 0 1 2, 0 1 4 and 0 2 4 go to themselves under a map x -> h - x, so that their orbits have 7.
 #[test]
 fn lists_triples_of_seven(rt: HostRuntime) {
     let maps = cyclic(&rt, 7, 6);
@@ -70,9 +70,9 @@ fn lists_triples_of_seven(rt: HostRuntime) {
     assert_eq!(rt; triples.size(3), 7);
 }
 
-// 84 triples by 9: nine classes of 9, and that of 0 3 6, which has 3.
+// 84 triples by 9: nine orbits of 9, and that of 0 3 6, which has 3.
 #[test]
-fn finds_a_short_class(rt: HostRuntime) {
+fn finds_a_short_orbit(rt: HostRuntime) {
     let maps = cyclic(&rt, 9, 1);
     assert!(rt; maps.points() == 9);
     let triples = subset_orbits(rt.alloc(), &maps, 3).expect(&rt, "ample memory");

@@ -3,10 +3,9 @@ use Rattle.std.proofs.Common.{◌≡◌, ℕ, suc, zero, ◌+◌, ◌-◌, ◌^�
 use Rattle.std.specs.List.{range_with_len}
 use Rattle.std.proofs.lemmas.List.Sums.{sum_by-cons, sum_by-append}
 use Rattle.std.proofs.Math.Nat.{two-pow-succ}
-use Rattle.df_lists.specs.NumberSets.{with_member}
+use Rattle.df_lists.specs.NumberSets.{with_member, Rises}
 use Rattle.df_lists.specs.Bits.{weight}
-use Rattle.df_subsets.specs.Blocks.{Rises}
-use Rattle.df_subsets.proofs.BlockLaws.{Rises-wider}
+use Rattle.df_lists.proofs.RisingLists.{Rises-wider}
 
 -- a point that is after all of a block is put at its end
 pub with_last : (low p : ℕ) (b : List ℕ) → Rises low p b → with_member p b ≡ b ++ p ∷ []

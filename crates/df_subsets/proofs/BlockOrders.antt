@@ -4,7 +4,8 @@ use Rattle.std.proofs.lemmas.Bool.{false≢true, and_parts, and_from, or_cases, 
 use Rattle.std.specs.List.{range_with_len}
 use Rattle.std.specs.Ordering.{nat_cmp, is_lt}
 use Rattle.std.specs.Cmp.Lexicographic.{slice_cmp}
-use Rattle.df_subsets.specs.Blocks.{Rises, before}
+use Rattle.df_lists.specs.NumberSets.{Rises}
+use Rattle.df_subsets.specs.Blocks.{before}
 use Rattle.df_subsets.specs.Subsets.{choose, subsets}
 use Rattle.df_lists.specs.Orders.{IsOrder, IsSorted}
 use Rattle.df_lists.proofs.MemberLaws.{In-map_gives}

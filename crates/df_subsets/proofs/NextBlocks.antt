@@ -9,9 +9,9 @@ use Rattle.std.proofs.lemmas.Option.{slice_get_past}
 use Rattle.std.proofs.lemmas.List.Sums.{sum_by-cons}
 use Rattle.df_lists.specs.Bits.{members, weight}
 use Rattle.df_lists.proofs.BitLaws.{weight_members}
-use Rattle.df_subsets.specs.Blocks.{Rises, IsBlock}
+use Rattle.df_lists.specs.NumberSets.{Rises, IsSet}
 use Rattle.df_subsets.specs.Subsets.{points, subsets, binomial, rank}
-use Rattle.df_subsets.proofs.BlockLaws.{Rises-wider}
+use Rattle.df_lists.proofs.RisingLists.{Rises-wider}
 use Rattle.df_subsets.proofs.SubsetLists.{subsets_long}
 use Rattle.df_subsets.proofs.Binomials.{binomial_all}
 use Rattle.df_sets.proofs.MemberBits.{members_weight, members_low}
@@ -67,14 +67,14 @@ first_bits k h =
     ap members {x = 2 ^ k - 1} {y = weight (points k)} (omega (arith, run, same)) ∙ members_weight 0 128 (points k) (omega arith) (run_rises 0 k 128 (omega arith))
 
 -- the block next to another stands at the next place
-pub next_is : (v : ℕ) (b c : List ℕ) → IsBlock v b → IsBlock v c → length c ≡ length b → later v c + 1 ≡ later v b → slice_get (subsets v (length b)) (rank v b + 1) ≡ Some c
+pub next_is : (v : ℕ) (b c : List ℕ) → IsSet v b → IsSet v c → length c ≡ length b → later v c + 1 ≡ later v b → slice_get (subsets v (length b)) (rank v b + 1) ≡ Some c
 next_is v b c r s e h =
     let here = rank_later v b r in
     let same = ap (binomial v) e in
     let next : rank v c ≡ rank v b + 1 = rank_is v c (rank v b + 1) s (omega (arith, here, h, same)) in
     sym (ap (slice_get (subsets v (length b))) next) ∙ at_rank v (length b) c s e
 
-pub none_next : (v : ℕ) (b : List ℕ) → IsBlock v b → later v b ≡ 0 → slice_get (subsets v (length b)) (rank v b + 1) ≡ None
+pub none_next : (v : ℕ) (b : List ℕ) → IsSet v b → later v b ≡ 0 → slice_get (subsets v (length b)) (rank v b + 1) ≡ None
 none_next v b r h = let here = rank_later v b r in slice_get_past (subsets v (length b)) (rank v b + 1) (omega (arith, here, h, subsets_long v (length b)))
 
 run_product : (a m q w kept : ℕ) → a ≡ m + 1 → w + q ≡ q * a → m * q + kept ≡ kept + w
@@ -86,27 +86,27 @@ module _ (v t : ℕ) (small : v ≤ 128) (fits : t ≤ v) where
   top_rises = run_rises (v - t) t v (omega arith)
 
   -- nothing below the run
-  pub all_top : (b : List ℕ) → IsBlock v b → 0 + weight (range_with_len (v - t) t) ≡ weight b → b ≡ range_with_len (v - t) t
+  pub all_top : (b : List ℕ) → IsSet v b → 0 + weight (range_with_len (v - t) t) ≡ weight b → b ≡ range_with_len (v - t) t
   all_top b r e = sym (members_weight 0 v b small r) ∙ ap members {x = weight b} {y = weight (range_with_len (v - t) t)} (omega (arith, e)) ∙ members_weight (v - t) v (range_with_len (v - t) t) small top_rises
 
-  pub last_one : (b : List ℕ) → IsBlock v b → 0 + weight (range_with_len (v - t) t) ≡ weight b → slice_get (subsets v (length b)) (rank v b + 1) ≡ None
+  pub last_one : (b : List ℕ) → IsSet v b → 0 + weight (range_with_len (v - t) t) ≡ weight b → slice_get (subsets v (length b)) (rank v b + 1) ≡ None
   last_one b r e = none_next v b r (ap (later v) (all_top b r e) ∙ later_top v t fits)
 
   -- a point p below the run, with a gap between them, and the points before it
   module _ (p kept : ℕ) (gap : p + t + 2 ≤ v) (low : kept < 2 ^ p) where
-    before_p : IsBlock p (members kept)
+    before_p : IsSet p (members kept)
     before_p = members_low kept p (omega arith) low
 
     kept_weight : weight (members kept) ≡ kept
     kept_weight = weight_members kept (let l = pow-le-pow_right {n = 2} (omega arith) {i = p} {j = 128} (omega arith) in omega (arith, l, low))
 
-    old_rises : IsBlock v (members kept ++ p ∷ range_with_len (v - t) t)
+    old_rises : IsSet v (members kept ++ p ∷ range_with_len (v - t) t)
     old_rises = Rises-append 0 p v (members kept) (p ∷ range_with_len (v - t) t) (omega arith) (omega arith) before_p (omega arith, omega arith, Rises-wider (p + 1) (v - t) v v (range_with_len (v - t) t) (omega arith) (omega arith) top_rises)
 
-    new_rises : IsBlock v (members kept ++ range_with_len (p + 1) (t + 1))
+    new_rises : IsSet v (members kept ++ range_with_len (p + 1) (t + 1))
     new_rises = Rises-append 0 (p + 1) v (members kept) (range_with_len (p + 1) (t + 1)) (omega arith) (omega arith) (Rises-wider 0 0 p (p + 1) (members kept) (omega arith) (omega arith) before_p) (run_rises (p + 1) (t + 1) v (omega arith))
 
-    old_is : (b : List ℕ) → IsBlock v b → 2 ^ p + kept + weight (range_with_len (v - t) t) ≡ weight b → b ≡ members kept ++ p ∷ range_with_len (v - t) t
+    old_is : (b : List ℕ) → IsSet v b → 2 ^ p + kept + weight (range_with_len (v - t) t) ≡ weight b → b ≡ members kept ++ p ∷ range_with_len (v - t) t
     old_is b r e =
         let old = members kept ++ p ∷ range_with_len (v - t) t in
         let same : weight b ≡ weight old = omega (arith, e, weight-append (members kept) (p ∷ range_with_len (v - t) t), sum_by-cons (λ i. 2 ^ i) p (range_with_len (v - t) t), kept_weight) in
@@ -121,7 +121,7 @@ module _ (v t : ℕ) (small : v ≤ 128) (fits : t ≤ v) where
         let same : (2 ^ (t + 1) - 1) * 2 ^ (p + 1) + kept ≡ weight new = run_product (2 ^ (t + 1)) (2 ^ (t + 1) - 1) (2 ^ (p + 1)) (weight (range_with_len (p + 1) (t + 1))) kept (omega (arith, powers)) (run ∙ product) ∙ sym (weight-append (members kept) (range_with_len (p + 1) (t + 1)) ∙ ap (λ n. n + weight (range_with_len (p + 1) (t + 1))) kept_weight) in
         ap members same ∙ members_weight 0 v new small new_rises
 
-    pub next_one : (b : List ℕ) → IsBlock v b → 2 ^ p + kept + weight (range_with_len (v - t) t) ≡ weight b
+    pub next_one : (b : List ℕ) → IsSet v b → 2 ^ p + kept + weight (range_with_len (v - t) t) ≡ weight b
         → slice_get (subsets v (length b)) (rank v b + 1) ≡ Some (members ((2 ^ (t + 1) - 1) * 2 ^ (p + 1) + kept))
     next_one b r e =
         let new = members kept ++ range_with_len (p + 1) (t + 1) in

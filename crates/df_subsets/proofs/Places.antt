@@ -6,10 +6,11 @@ use Rattle.std.proofs.lemmas.List.FromFn.{length-range_with_len}
 use Rattle.std.proofs.lemmas.Option.{slice_get-get_or, slice_get_within, get_or_from_slice_get}
 use Rattle.std.specs.List.{range_with_len}
 use Rattle.df_lists.specs.Membership.{In}
-use Rattle.df_subsets.specs.Blocks.{Rises, IsBlock, before}
+use Rattle.df_lists.specs.NumberSets.{Rises, IsSet}
+use Rattle.df_subsets.specs.Blocks.{before}
 use Rattle.df_lists.specs.Orders.{IsSorted}
 use Rattle.df_subsets.specs.Subsets.{choose, subsets, binomial, same_list, place_of, rank}
-use Rattle.df_subsets.proofs.BlockLaws.{Rises-wider}
+use Rattle.df_lists.proofs.RisingLists.{Rises-wider}
 use Rattle.df_subsets.proofs.SubsetLists.{length-choose, subsets_inside, subsets_long, same_list-gives, same_list-self}
 use Rattle.df_subsets.proofs.BlockOrders.{lists_ordered, subsets_sorted}
 use Rattle.df_lists.proofs.ListPlaces.{In-get_or}
@@ -75,23 +76,23 @@ place_at (x ∷ xs) (suc i) d s h =
     rw differs (ap suc (place_at xs i d s.1 (omega arith)))
 
 -- the rank, from the number of blocks that come after
-pub rank_is : (v : ℕ) (b : List ℕ) (i : ℕ) → IsBlock v b → i + later v b + 1 ≡ binomial v (length b) → rank v b ≡ i
+pub rank_is : (v : ℕ) (b : List ℕ) (i : ℕ) → IsSet v b → i + later v b + 1 ≡ binomial v (length b) → rank v b ≡ i
 rank_is v b i r h =
     let at = (stands v 0 v (length b) b [] (omega arith) r refl).1 i h in
     let long = subsets_long v (length b) in
     sym (ap (λ c. place_of c (subsets v (length b))) at) ∙ place_at (subsets v (length b)) i [] (subsets_sorted v (length b)) (omega (arith, h, long))
 
-pub rank_later : (v : ℕ) (b : List ℕ) → IsBlock v b → rank v b + later v b + 1 ≡ binomial v (length b)
+pub rank_later : (v : ℕ) (b : List ℕ) → IsSet v b → rank v b + later v b + 1 ≡ binomial v (length b)
 rank_later v b r =
     let few = (stands v 0 v (length b) b [] (omega arith) r refl).0 in
     let i = binomial v (length b) - 1 - later v b in
     let at : i + later v b + 1 ≡ binomial v (length b) = omega (arith, few) in
     omega (arith, rank_is v b i r at, at)
 
-pub rank_below : (v k : ℕ) (b : List ℕ) → IsBlock v b → length b ≡ k → rank v b < binomial v k
+pub rank_below : (v k : ℕ) (b : List ℕ) → IsSet v b → length b ≡ k → rank v b < binomial v k
 rank_below v k b r e = subst (λ n. rank v b < binomial v n) e (let h = rank_later v b r in omega (arith, h))
 
-pub at_rank : (v k : ℕ) (b : List ℕ) → IsBlock v b → length b ≡ k → slice_get (subsets v k) (rank v b) ≡ Some b
+pub at_rank : (v k : ℕ) (b : List ℕ) → IsSet v b → length b ≡ k → slice_get (subsets v k) (rank v b) ≡ Some b
 at_rank v k b r e =
     let h : rank v b + later v b + 1 ≡ binomial v k = subst (λ n. rank v b + later v b + 1 ≡ binomial v n) e (rank_later v b r) in
     slice_get-get_or (subsets v k) (rank v b) [] (omega (arith, h, subsets_long v k)) ∙ ap Some ((stands v 0 v k b [] (omega arith) r e).1 (rank v b) h)
@@ -104,7 +105,7 @@ rank_of v k i b h =
     ap (λ n. place_of b (subsets v n)) long ∙ sym (ap (λ c. place_of c (subsets v k)) at) ∙ place_at (subsets v k) i [] (subsets_sorted v k) inside
 
 -- what stands at a place is a block of the size
-pub inside_at : (v k i : ℕ) (b : List ℕ) → slice_get (subsets v k) i ≡ Some b → IsBlock v b × (length b ≡ k)
+pub inside_at : (v k i : ℕ) (b : List ℕ) → slice_get (subsets v k) i ≡ Some b → IsSet v b × (length b ≡ k)
 inside_at v k i b h =
     let inside = slice_get_within (subsets v k) i b h in
     subsets_inside v k b (subst (In (subsets v k)) (get_or_from_slice_get (subsets v k) i b [] h) (In-get_or (subsets v k) i [] inside))

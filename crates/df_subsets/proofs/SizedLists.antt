@@ -4,7 +4,8 @@ use Rattle.std.proofs.lemmas.Bool.{and_parts, and_from, or_left, or_right}
 use Rattle.std.proofs.lemmas.List.Elements.{filter-append}
 use Rattle.std.specs.List.{range_with_len, list_any}
 use Rattle.df_lists.specs.Membership.{In, count}
-use Rattle.df_subsets.specs.Blocks.{Rises, IsBlock, before}
+use Rattle.df_lists.specs.NumberSets.{Rises, IsSet}
+use Rattle.df_subsets.specs.Blocks.{before}
 use Rattle.df_lists.specs.Orders.{IsSorted}
 use Rattle.df_subsets.specs.Subsets.{choose, points, same_list, nonempty, candidates}
 use Rattle.df_lists.proofs.MemberLaws.{In-append_cases, In-map_gives, In-filter, In-filter_gives}
@@ -69,26 +70,26 @@ pub candidates_sorted : (v : ℕ) (sizes : List ℕ) → IsSorted before (candid
 candidates_sorted v sizes = sorted-filter before (λ b. list_any (λ k. eqb k (length b)) sizes) ([] ∷ nonempty (points v)) (nonempty_sorted 0 v)
 
 -- a candidate is a block of one of the sizes
-pub candidates_inside : (v : ℕ) (sizes b : List ℕ) → In (candidates v sizes) b → IsBlock v b × (list_any (λ k. eqb k (length b)) sizes ≡ true)
+pub candidates_inside : (v : ℕ) (sizes b : List ℕ) → In (candidates v sizes) b → IsSet v b × (list_any (λ k. eqb k (length b)) sizes ≡ true)
 candidates_inside v sizes b i =
     let r = In-filter_gives (λ b. list_any (λ k. eqb k (length b)) sizes) ([] ∷ nonempty (points v)) b i in
     let j = subst (λ l. In l b) (sym (choose_is (points v) (length b))) (In-filter (λ c. eqb (length b) (length c)) ([] ∷ nonempty (points v)) b r.0 (eq-eqb (length b) (length b) refl)) in
     ((subsets_inside v (length b) b j).0, r.1)
 
-pub candidates_once : (v : ℕ) (sizes b : List ℕ) → IsBlock v b → list_any (λ k. eqb k (length b)) sizes ≡ true → count (same_list b) (candidates v sizes) ≡ 1
+pub candidates_once : (v : ℕ) (sizes b : List ℕ) → IsSet v b → list_any (λ k. eqb k (length b)) sizes ≡ true → count (same_list b) (candidates v sizes) ≡ 1
 candidates_once v sizes b r h =
     ap length (filter-filter (same_list b) (λ c. list_any (λ k. eqb k (length c)) sizes) ([] ∷ nonempty (points v))
-    ∙ filter_agree (λ c. list_any (λ k. eqb k (length c)) sizes && same_list b c) (λ c. eqb (length b) (length c) && same_list b c) ([] ∷ nonempty (points v)) (λ c i. alike c)
+    ∙ filter_agree (λ c. list_any (λ k. eqb k (length c)) sizes && same_list b c) (λ c. eqb (length b) (length c) && same_list b c) ([] ∷ nonempty (points v)) (λ c i. agree_here c)
     ∙ sym (filter-filter (same_list b) (λ c. eqb (length b) (length c)) ([] ∷ nonempty (points v))))
     ∙ ap (count (same_list b)) (sym (choose_is (points v) (length b)))
     ∙ subsets_once v (length b) b r refl
   where
-    alike : (c : List ℕ) → (list_any (λ k. eqb k (length c)) sizes && same_list b c) ≡ (eqb (length b) (length c) && same_list b c)
-    alike c = same_tests (list_any (λ k. eqb k (length c)) sizes && same_list b c) (eqb (length b) (length c) && same_list b c)
+    agree_here : (c : List ℕ) → (list_any (λ k. eqb k (length c)) sizes && same_list b c) ≡ (eqb (length b) (length c) && same_list b c)
+    agree_here c = same_tests (list_any (λ k. eqb k (length c)) sizes && same_list b c) (eqb (length b) (length c) && same_list b c)
         (λ p. let q = and_parts (list_any (λ k. eqb k (length c)) sizes) (same_list b c) p in and_from (eqb (length b) (length c)) (same_list b c) (eq-eqb (length b) (length c) (ap length (same_list-gives b c q.1))) q.1)
         (λ p. let q = and_parts (eqb (length b) (length c)) (same_list b c) p in and_from (list_any (λ k. eqb k (length c)) sizes) (same_list b c) (subst (λ c. list_any (λ k. eqb k (length c)) sizes ≡ true) (same_list-gives b c q.1) h) q.1)
 
-pub candidates_have : (v : ℕ) (sizes b : List ℕ) → IsBlock v b → list_any (λ k. eqb k (length b)) sizes ≡ true → In (candidates v sizes) b
+pub candidates_have : (v : ℕ) (sizes b : List ℕ) → IsSet v b → list_any (λ k. eqb k (length b)) sizes ≡ true → In (candidates v sizes) b
 candidates_have v sizes b r h =
     In-filter (λ b. list_any (λ k. eqb k (length b)) sizes) ([] ∷ nonempty (points v)) b
     (In-filter_gives (λ c. eqb (length b) (length c)) ([] ∷ nonempty (points v)) b (subst (λ l. In l b) (choose_is (points v) (length b)) (subsets_have v (length b) b r refl))).0 h

@@ -5,9 +5,9 @@ use Rattle.std.proofs.lemmas.List.{length-map}
 use Rattle.std.proofs.lemmas.List.FromFn.{length-range_with_len}
 use Rattle.std.specs.List.{range_with_len}
 use Rattle.df_lists.specs.Membership.{In, count}
-use Rattle.df_subsets.specs.Blocks.{Rises, IsBlock}
+use Rattle.df_lists.specs.NumberSets.{Rises, IsSet}
 use Rattle.df_subsets.specs.Subsets.{choose, subsets, points, binomial, same_list}
-use Rattle.df_subsets.proofs.BlockLaws.{Rises-wider}
+use Rattle.df_lists.proofs.RisingLists.{Rises-wider}
 use Rattle.df_lists.proofs.MemberLaws.{In-append_cases, In-map_gives, count-append, count-map, count_none, count_gives}
 
 pub length-choose : (ps : List ℕ) (k : ℕ) → length (choose ps k) ≡ binomial (length ps) k
@@ -76,13 +76,13 @@ choose_once low (suc n) (suc k) (p ∷ b) r e =
     there ne more = rw (ne_eqb p low ne, more, count_none (λ c. false) (choose (range_with_len (low + 1) n) k) (λ c i. refl)) refl
 
 -- the members are the blocks of the size, each once
-pub subsets_inside : (v k : ℕ) (b : List ℕ) → In (subsets v k) b → IsBlock v b × (length b ≡ k)
+pub subsets_inside : (v k : ℕ) (b : List ℕ) → In (subsets v k) b → IsSet v b × (length b ≡ k)
 subsets_inside v k b i = let r = choose_inside 0 v k b i in (Rises-from 0 0 (0 + v) v b (omega arith) (omega arith) r.0, r.1)
 
-pub subsets_once : (v k : ℕ) (b : List ℕ) → IsBlock v b → length b ≡ k → count (same_list b) (subsets v k) ≡ 1
+pub subsets_once : (v k : ℕ) (b : List ℕ) → IsSet v b → length b ≡ k → count (same_list b) (subsets v k) ≡ 1
 subsets_once v k b r e = choose_once 0 v k b (Rises-from 0 0 v (0 + v) b (omega arith) (omega arith) r) e
 
-pub subsets_have : (v k : ℕ) (b : List ℕ) → IsBlock v b → length b ≡ k → In (subsets v k) b
+pub subsets_have : (v k : ℕ) (b : List ℕ) → IsSet v b → length b ≡ k → In (subsets v k) b
 subsets_have v k b r e =
     let one = subsets_once v k b r e in
     let found = count_gives (same_list b) (subsets v k) (omega (arith, one)) in

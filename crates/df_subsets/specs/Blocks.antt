@@ -1,21 +1,11 @@
--- Blocks: strictly increasing lists of points.
+-- Blocks: sets of points, as increasing lists.
 use Rattle.std.specs.Prelude.{◌==◌, ℕ, Bool, true, false, not, ◌&&◌, ◌||◌, List, [], ◌∷◌, nat_lt}
-use Rattle.df_lists.specs.NumberSets.{has_member, with_member}
-pub use Rattle.df_lists.specs.NumberSets.{Rises}
-
--- a strictly increasing list of points below v
-abbrev pub IsBlock : ℕ → List ℕ → Type 0
-IsBlock v b = Rises 0 v b
+use Rattle.df_lists.specs.NumberSets.{has_member}
 
 -- each listed point lies below v, and none is listed twice
 abbrev pub are_apart : ℕ → List ℕ → Bool
 are_apart v [] = true
 are_apart v (p ∷ ps) = nat_lt p v && not (has_member ps p) && are_apart v ps
-
--- the listed points, each once, in increasing order
-abbrev pub increasing : List ℕ → List ℕ
-increasing [] = []
-increasing (p ∷ ps) = with_member p (increasing ps)
 
 -- blocks are compared as lists, a proper prefix first
 abbrev pub before : List ℕ → List ℕ → Bool

@@ -3,7 +3,8 @@ use Rattle.std.specs.Prelude.{◌≡◌, ◌<◌, ℕ, List, length, slice_get, 
 use Rattle.std.specs.Ordering.{nat_cmp, is_lt}
 use Rattle.std.specs.Cmp.Lexicographic.{slice_cmp}
 use Rattle.df_lists.specs.Membership.{In, count}
-use Rattle.df_subsets.specs.Blocks.{IsBlock, before}
+use Rattle.df_lists.specs.NumberSets.{IsSet}
+use Rattle.df_subsets.specs.Blocks.{before}
 use Rattle.df_lists.specs.Orders.{IsEquality}
 use Rattle.df_lists.specs.Orders.{IsOrder, IsSorted}
 use Rattle.df_subsets.specs.Subsets.{subsets, binomial, same_list, rank, candidates}
@@ -18,17 +19,17 @@ pub record AreOrdered : Type 0 where
 pub record AreAll (v k : ℕ) : Type 0 where
   pub long : length (subsets v k) ≡ binomial v k
   pub sorted : IsSorted before (subsets v k)
-  pub inside : (b : List ℕ) → In (subsets v k) b → IsBlock v b × (length b ≡ k)
-  pub have : (b : List ℕ) → IsBlock v b → length b ≡ k → In (subsets v k) b
-  pub once : (b : List ℕ) → IsBlock v b → length b ≡ k → count (same_list b) (subsets v k) ≡ 1
+  pub inside : (b : List ℕ) → In (subsets v k) b → IsSet v b × (length b ≡ k)
+  pub have : (b : List ℕ) → IsSet v b → length b ≡ k → In (subsets v k) b
+  pub once : (b : List ℕ) → IsSet v b → length b ≡ k → count (same_list b) (subsets v k) ≡ 1
 
 abbrev pub SubsetsAreAll : Type 0
 SubsetsAreAll = (v k : ℕ) → AreAll v k
 
 -- each block of the size stands at its rank, and each place is the rank of the block that stands there
 pub record AreRanked (v k : ℕ) : Type 0 where
-  pub below : (b : List ℕ) → IsBlock v b → length b ≡ k → rank v b < binomial v k
-  pub at : (b : List ℕ) → IsBlock v b → length b ≡ k → slice_get (subsets v k) (rank v b) ≡ Some b
+  pub below : (b : List ℕ) → IsSet v b → length b ≡ k → rank v b < binomial v k
+  pub at : (b : List ℕ) → IsSet v b → length b ≡ k → slice_get (subsets v k) (rank v b) ≡ Some b
   pub of : (i : ℕ) (b : List ℕ) → slice_get (subsets v k) i ≡ Some b → rank v b ≡ i
 
 abbrev pub RanksArePlaces : Type 0

@@ -12,8 +12,8 @@ ghost use Rattle.std.specs.Hash.{items_Alike, same_Alike};
 ghost use Rattle.std.proofs.Common.{rules};
 ghost use Rattle.df_lists.specs.Membership.{In};
 ghost use Rattle.df_lists.specs.Bits.{members, weight};
-ghost use Rattle.df_lists.specs.NumberSets.{has_member, with_member};
-ghost use Rattle.df_subsets.specs.Blocks.{IsBlock, are_apart, increasing};
+ghost use Rattle.df_lists.specs.NumberSets.{has_member, set_of, with_member, IsSet};
+ghost use Rattle.df_subsets.specs.Blocks.{are_apart};
 
 use arrayvec::ArrayVec;
 use df_sets::NumberSet;
@@ -53,11 +53,11 @@ impl Model for Block {
 
     ghost Value = { List ℕ };
 
-    ghost use Rattle.df_subsets.specs.Blocks.{IsBlock};
+    ghost use Rattle.df_lists.specs.NumberSets.{IsSet};
 
     ghost view = { λ b. b.points };
 
-    ghost invariant = { λ b. IsBlock 128 b.points };
+    ghost invariant = { λ b. IsSet 128 b.points };
 
     ghost inverse = { λ points. record { points = points } };
 
@@ -93,9 +93,9 @@ impl Block {
     /// The block of these points, in whatever order they come.
     /// `None` exactly where a point is repeated or isn't below 128.
     pub fn from_points(points: &[Point]) -> Option<Block>
-        ensures value { result ≡ (if are_apart 128 points.now then Some (increasing points.now) else None) }
+        ensures value { result ≡ (if are_apart 128 points.now then Some (set_of 128 points.now) else None) }
         ensures size { IfSome result (λ block. length block ≡ length points.now) }
-        ensures within { (v : ℕ) → ((p : ℕ) → In points.now p → p < v) → IfSome result (λ block. IsBlock v block) }
+        ensures within { (v : ℕ) → ((p : ℕ) → In points.now p → p < v) → IfSome result (λ block. IsSet v block) }
     {
         let mut block = Block::empty();
         for p in points {
@@ -113,7 +113,7 @@ impl Block {
         ensures list { self.new ≡ with_member p self.old }
         ensures points { (q : ℕ) → has_member self.new q ≡ (p == q || has_member self.old q) }
         ensures size { length self.new ≡ (if has_member self.old p then length self.old else length self.old + 1) }
-        ensures within { (v : ℕ) → p < v → IsBlock v self.old → IsBlock v self.new }
+        ensures within { (v : ℕ) → p < v → IsSet v self.old → IsSet v self.new }
     {
         self.points.insert(p.0);
     }
@@ -135,7 +135,7 @@ impl Block {
     /// The points, increasing.
     pub fn points(&self) -> ArrayVec<Point, 128>
         ensures list { result.items ≡ self.now }
-        ensures block { IsBlock 128 self.now }
+        ensures block { IsSet 128 self.now }
     {
         let mut points = ArrayVec::new();
         let mut rest = self.points;

@@ -1,5 +1,5 @@
 // Laws of blocks: functions of empty body, each with a law as its contract.
-ghost use Rattle.df_subsets.specs.SetLaws.{AreSets, AreExtended, AreGathered};
+ghost use Rattle.df_subsets.specs.SetLaws.{AreSets, AreExtended};
 ghost use Rattle.df_subsets.specs.SubsetLaws.{AreOrdered, SubsetsAreAll, RanksArePlaces, CandidatesAreAll};
 
 /// Blocks are the sets of numbers below a bound, and two blocks with the same points are one.
@@ -10,11 +10,6 @@ pub fn blocks_are_sets()
 /// What a block is with one more point.
 pub fn blocks_are_extended()
     ensures { AreExtended }
-{}
-
-/// What the block of a list of points is.
-pub fn blocks_are_gathered()
-    ensures { AreGathered }
 {}
 
 /// Blocks are told apart and ordered as lists, a proper prefix first.

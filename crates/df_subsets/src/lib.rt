@@ -12,7 +12,7 @@ mod tests;
 
 pub use block::{Block, Point};
 pub use laws::{
-    blocks_are_extended, blocks_are_gathered, blocks_are_ordered, blocks_are_sets,
-    candidates_are_all, ranks_are_places, subsets_are_all,
+    blocks_are_extended, blocks_are_ordered, blocks_are_sets, candidates_are_all, ranks_are_places,
+    subsets_are_all,
 };
 pub use subsets::{binomial, first, next, rank, unrank};

@@ -6,7 +6,7 @@
 ghost use Rattle.std.specs.Prelude.{◌≡◌, ◌+◌, ◌-◌, ◌*◌, ◌/◌, ◌^◌, ◌<◌, ◌≤◌, length, slice_get, IfSome};
 ghost use Rattle.std.specs.List.{range_with_len};
 ghost use Rattle.df_lists.specs.Bits.{weight};
-ghost use Rattle.df_subsets.specs.Blocks.{IsBlock};
+ghost use Rattle.df_lists.specs.NumberSets.{IsSet};
 ghost use Rattle.df_subsets.specs.Subsets.{points as points_below, subsets, binomial as binomial_of, rank as rank_of};
 
 use crate::block::{Block, Point};
@@ -58,7 +58,7 @@ pub fn first(v: u8, k: u8) -> Block
     requires within { k ≤ v }
     ensures first { slice_get (subsets v k) 0 ≡ Some result }
     ensures points { result ≡ points_below k }
-    ensures block { IsBlock v result }
+    ensures block { IsSet v result }
     ensures size { length result ≡ k }
 {
     Block::from_bits(u128::MAX >> (128 - k))
@@ -69,9 +69,9 @@ pub fn first(v: u8, k: u8) -> Block
 pub fn next(v: u8, block: &Block) -> Option<Block>
     requires small { v ≤ 128 }
     requires some { 0 < length block.now }
-    requires within { IsBlock v block.now }
+    requires within { IsSet v block.now }
     ensures next { result ≡ slice_get (subsets v (length block.now)) (rank_of v block.now + 1) }
-    ensures block { IfSome result (λ next. IsBlock v next × (length next ≡ length block.now)) }
+    ensures block { IfSome result (λ next. IsSet v next × (length next ≡ length block.now)) }
 {
     let (top, low) = below_top(v, block.bits());
     if low == 0 {
@@ -107,7 +107,7 @@ fn below_top(v: u8, bits: u128) -> (u8, u128)
 pub fn rank(v: u8, block: &Block) -> u128
     requires small { v ≤ 128 }
     requires some { 0 < length block.now }
-    requires within { IsBlock v block.now }
+    requires within { IsSet v block.now }
     ensures rank { result ≡ rank_of v block.now }
     ensures place { slice_get (subsets v (length block.now)) result ≡ Some block.now }
     ensures below { result < binomial_of v (length block.now) }
@@ -133,7 +133,7 @@ pub fn unrank(v: u8, k: u8, place: u128) -> Block
     requires below { place < binomial_of v k }
     ensures place { slice_get (subsets v k) place ≡ Some result }
     ensures rank { rank_of v result ≡ place }
-    ensures block { IsBlock v result }
+    ensures block { IsSet v result }
     ensures size { length result ≡ k }
 {
     let mut block = Block::empty();

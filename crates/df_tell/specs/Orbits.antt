@@ -4,7 +4,7 @@ use Rattle.std.specs.List.{flat_map}
 use Rattle.std.specs.Fmt.{decimal}
 use Rattle.df_lang.specs.Problems.{Stated}
 use Rattle.df_lang.specs.Canonical.{block_text}
-use Rattle.df_orbits.specs.OrbitClasses.{pair_classes, block_classes, first_members}
+use Rattle.df_orbits.specs.Orbits.{pair_orbits, block_orbits, listed_representatives}
 use Rattle.df_kramer_mesner.specs.OrbitSystems.{maps_of_problem}
 use Rattle.df_tell.specs.Counts.{count_line}
 
@@ -17,7 +17,7 @@ abbrev pub IsShort : List ℕ → Type 0
 IsShort representative = length representative ≤ 16
 
 abbrev pub AreShort : List (List ℕ × ℕ) → Type 0
-AreShort orbits = All IsShort (first_members orbits)
+AreShort orbits = All IsShort (listed_representatives orbits)
 
 -- how many orbits there are, and a line for each, with the words for many and for one
 abbrev pub orbit_lines : List ℕ → List ℕ → Stated → List (List ℕ × ℕ) → List ℕ
@@ -26,5 +26,5 @@ orbit_lines many one s orbits = count_line many (length orbits) ++ flat_map (orb
 -- the orbits of pairs under the maps of a problem, and then those of the blocks of its sizes
 abbrev pub orbits_text : Stated → List ℕ
 orbits_text s =
-    orbit_lines (codes "pairs ") (codes "pair ") s (pair_classes (maps_of_problem s))
-    ++ orbit_lines (codes "blocks ") (codes "block ") s (block_classes (maps_of_problem s) s.sizes)
+    orbit_lines (codes "pairs ") (codes "pair ") s (pair_orbits (maps_of_problem s))
+    ++ orbit_lines (codes "blocks ") (codes "block ") s (block_orbits (maps_of_problem s) s.sizes)

@@ -1,5 +1,5 @@
 use Rattle.std.proofs.Common.{ap, sym, ◌∙◌, subst}
-use Rattle.df_lang.specs.declared.parts.Kind.{Kind}
+use Rattle.df_lang.specs.declared.pieces.Kind.{Kind}
 use Rattle.df_group.proofs.ElementLaws.{is_group}
 use Rattle.df_group.proofs.SubgroupLaws.{subgroup_closed}
 use Rattle.df_family.specs.Developments.{is_listed}

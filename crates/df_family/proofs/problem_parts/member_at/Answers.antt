@@ -1,7 +1,7 @@
 use Rattle.std.proofs.Common.{ℕ, ◌+◌, ◌<◌, List, All, ap, sym, subst, arith}
 use Rattle.df_lists.specs.NumberSets.{IsSet}
 use Rattle.df_group.specs.Elements.{order_of}
-use Rattle.df_lang.specs.declared.parts.Member.{Member}
+use Rattle.df_lang.specs.declared.pieces.Member.{Member}
 use Rattle.df_lang.specs.Problems.{point_count}
 use Rattle.df_family.proofs.RemainderLaws.{set_below}
 use Rattle.df_family.proofs.problem_parts.member_at.Goals as goal

@@ -1,6 +1,6 @@
 use Rattle.std.proofs.Common.{◌≡◌, length}
 use Rattle.df_io.specs.Lines.{left}
-use Rattle.df_subsets.specs.Blocks.{Rises}
+use Rattle.df_lists.specs.NumberSets.{Rises}
 use Rattle.df_lang.specs.Values.{sizes_from}
 use Rattle.df_lang.proofs.sizes.more_sizes.Given as goal
 

@@ -1,6 +1,9 @@
-use Rattle.std.proofs.Common.{◌≡◌, ◌≤◌, false, filter, length, slice_index_or}
-use Rattle.std.specs.List.{range_with_len}
+use Rattle.std.proofs.Common.{◌≡◌, ◌++◌, length}
+use Rattle.df_maps.specs.Products.{products}
 use Rattle.df_maps.proofs.products.residues_of_products.Given as goal
 
-abbrev pub invariant-loop-r : goal.invariant-loop-r
-invariant-loop-r l = (l.residues.items ≡ filter (λ r. slice_index_or l.reached r false) (range_with_len 0 l.r)) × (length l.residues.items ≤ l.r)
+abbrev pub invariant-loop-residue : goal.invariant-loop-residue
+invariant-loop-residue l = l.residues.items ++ l.rest ≡ products l.exponent l.mults
+
+abbrev pub decreases-loop-residue : goal.decreases-loop-residue
+decreases-loop-residue l = length l.rest

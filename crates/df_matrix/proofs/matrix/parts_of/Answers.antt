@@ -1,7 +1,7 @@
 use Rattle.std.proofs.Common.{◌≡◌, length, ap, ◌∙◌, subst, arith, refl, inl, Some, None}
 use Rattle.df_lists.proofs.ListTotals.{count_whole}
 use Rattle.df_lang.specs.Problems.{Stated, IsStated}
-use Rattle.df_kramer_mesner.specs.OrbitSystems.{has_alike, is_kept, orbits_of, columns_of, targets_of}
+use Rattle.df_kramer_mesner.specs.OrbitSystems.{has_in_orbit, is_kept, orbits_of, columns_of, targets_of}
 use Rattle.df_kramer_mesner.specs.Laws.{AreSparse}
 use Rattle.df_matrix.specs.Limits.{or_else, column_limit_of, entry_limit_of}
 use Rattle.df_matrix.proofs.PlaceLists.{places_long}
@@ -10,7 +10,7 @@ use Rattle.df_matrix.proofs.matrix.parts_of.Goals as goal
 pub targets_of-requires : goal.targets_of-requires
 targets_of-requires c =
     let s = c.args.orbits.now in
-    c.len.ensures ∙ c.in-Ok.needed.ok.0 ∙ ap length c.in-Ok.ensures ∙ places_long (has_alike s s.required) (orbits_of s)
+    c.len.ensures ∙ c.in-Ok.needed.ok.0 ∙ ap length c.in-Ok.ensures ∙ places_long (has_in_orbit s s.required) (orbits_of s)
 
 pub judge-requires-clause-rows : goal.judge-requires-clause-rows
 judge-requires-clause-rows c =

@@ -2,7 +2,7 @@ use Rattle.std.proofs.Common.{◌≤◌, All, sym, subst, ap, arith, ◌∙◌}
 use Rattle.std.specs.List.{sum_by}
 use Rattle.df_subsets.specs.Subsets.{binomial}
 use Rattle.df_maps.specs.FullMaps.{point_count}
-use Rattle.df_orbits.specs.OrbitClasses.{pair_classes, block_classes}
+use Rattle.df_orbits.specs.Orbits.{pair_orbits, block_orbits}
 use Rattle.df_kramer_mesner.specs.OrbitSystems.{maps_of_problem}
 use Rattle.df_kramer_mesner.specs.Laws.{AreFew}
 use Rattle.df_matrix.specs.MatrixParts.{AreOrbits}
@@ -24,9 +24,9 @@ invariant_of-result c =
     let maps = c.in_ok-images.ensures ∙ c.maps_of-maps.ensures.maps in
     let are : AreOrbits s c.maps_of-maps.result c.in_ok-pairs.pairs c.in_ok-numbers.numbers c.in_ok-blocks.blocks = record {
       maps_are = c.maps_of-maps.ensures.maps;
-      pairs_are = c.in_ok-pairs.ensures.pairs ∙ ap pair_classes maps;
+      pairs_are = c.in_ok-pairs.ensures.pairs ∙ ap pair_orbits maps;
       numbers_are = c.in_ok-numbers.ensures ∙ maps;
-      orbits_are = c.in_ok-blocks.ensures ∙ ap (λ M. block_classes M c.all_sizes.result.now) maps ∙ ap (block_classes (maps_of_problem s)) c.all_sizes.ensures.sizes;
+      orbits_are = c.in_ok-blocks.ensures ∙ ap (λ M. block_orbits M c.all_sizes.result.now) maps ∙ ap (block_orbits (maps_of_problem s)) c.all_sizes.ensures.sizes;
       stated = c.maps_of-maps.ensures.stated;
       group = c.maps_of-maps.ensures.group;
       few = omega (arith, few.blocks, c.requires);

@@ -20,7 +20,7 @@ loop-q-preserved c = record {
   long = omega (arith, c.push.ensures.len, c.loop-q.invariant.long);
   rows = λ done R.
       let next = rows_next c.args.orbits.now done c.loop-q.rows.items c.args.later.now c.args.p c.loop-q.q-index c.q-item.result c.row_of.result c.loop-q-test.true
-      (get_or_read c.args.later.now c.loop-q.q-index c.q-item.result c.loop-q-test.true c.q-item.is 0) (c.loop-q.invariant.rows done R) c.row_of.ensures.within c.row_of.ensures.class in
+      (get_or_read c.args.later.now c.loop-q.q-index c.q-item.result c.loop-q-test.true c.q-item.is 0) (c.loop-q.invariant.rows done R) c.row_of.ensures.within c.row_of.ensures.orbit in
       subst (λ l. AreRowsOf c.args.orbits.now (done ++ map (λ q. c.args.p ∷ q ∷ []) (take (c.loop-q.q-index + 1) c.args.later.now)) l) (sym c.push.ensures.items) next;
 }
 

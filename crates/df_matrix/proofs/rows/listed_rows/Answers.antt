@@ -1,7 +1,7 @@
 use Rattle.std.proofs.Common.{◌≡◌, ◌+◌, ◌-◌, ◌<◌, map, [], ◌∷◌, take, drop, length, sym, ap, subst, arith, ◌∙◌, length-append}
 use Rattle.std.proofs.lemmas.List.{length-map}
 use Rattle.df_lang.specs.Problems.{point_count}
-use Rattle.df_subsets.specs.Blocks.{IsBlock}
+use Rattle.df_lists.specs.NumberSets.{IsSet}
 use Rattle.df_matrix.specs.MatrixParts.{AreRowsOf, pairs_before}
 use Rattle.df_matrix.proofs.PairLists.{pairs_more, pairs_all, pairs_few, block_drop, from_point}
 use Rattle.df_matrix.proofs.RowLists.{rows_none}
@@ -12,7 +12,7 @@ add_rows-requires-clause-block c =
     let b = c.args.block.now in
     let within : c.loop-i.i < length b = omega (arith, c.loop-i-test.true, c.len-i-end.ensures.value, ap length c.points-points.ensures.list) in
     let e = from_point b c.deref.result.now c.as_slice.result.now c.loop-i.i c.index-deref-i.result within (c.deref.ensures.0 ∙ c.points-points.ensures.list) c.index-deref-i.is (c.as_slice.ensures.value ∙ c.points-points.ensures.list) in
-    subst (IsBlock (point_count c.args.orbits.now)) e (block_drop 0 (point_count c.args.orbits.now) c.loop-i.i b c.requires.block)
+    subst (IsSet (point_count c.args.orbits.now)) e (block_drop 0 (point_count c.args.orbits.now) c.loop-i.i b c.requires.block)
 
 pub add_rows-requires-clause-room : goal.add_rows-requires-clause-room
 add_rows-requires-clause-room c =

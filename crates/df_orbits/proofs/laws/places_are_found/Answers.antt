@@ -1,4 +1,4 @@
-use Rattle.df_orbits.proofs.ClassNumbers.{places_found}
+use Rattle.df_orbits.proofs.OrbitNumbers.{places_found}
 use Rattle.df_orbits.proofs.laws.places_are_found.Goals as goal
 
 pub returns : goal.returns

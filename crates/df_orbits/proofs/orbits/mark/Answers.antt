@@ -2,7 +2,6 @@ use Rattle.std.proofs.Common.{◌≡◌, ◌≤◌, ◌+◌, ◌∙◌, ◌||◌
 use Rattle.std.specs.List.{list_any, range_with_len}
 use Rattle.std.proofs.Math.Bool.{or_assoc}
 use Rattle.df_subsets.specs.Subsets.{subsets, same_list, rank}
-use Rattle.df_subsets.proofs.BlockLaws.{block_is_set}
 use Rattle.df_maps.specs.FullMaps.{point_count, image, map_number, full_maps}
 use Rattle.df_maps.proofs.FixingCounts.{fixing, fixing_more, fixing_some, size_is}
 use Rattle.df_orbits.specs.MarkedPlaces.{is_marked}
@@ -47,7 +46,7 @@ nonzero_div-result c =
     let M = c.args.images.now in
     let b = c.args.block.now in
     let end : length (full_maps M) ≡ c.loop-i.i = omega (arith, c.count-i-end.ensures.count) in
-    fixing_some M c.count-i-end.ensures.maps b (block_is_set (point_count M) b c.requires.block) c.loop-i.fixing c.loop-i.i c.loop-i.invariant.fixing end (omega (arith, c.count-i-end.ensures.count, c.count-i-end.ensures.some))
+    fixing_some M c.count-i-end.ensures.maps b c.requires.block c.loop-i.fixing c.loop-i.i c.loop-i.invariant.fixing end (omega (arith, c.count-i-end.ensures.count, c.count-i-end.ensures.some))
 
 pub returns-clause-marks : goal.returns-clause-marks
 returns-clause-marks c = λ place h.
@@ -62,4 +61,4 @@ returns-clause-size c =
     let M = c.args.images.now in
     let b = c.args.block.now in
     let end : length (full_maps M) ≡ c.loop-i.i = omega (arith, c.count-i-end.ensures.count) in
-    size_is M c.count-i-end.ensures.maps b (block_is_set (point_count M) b c.requires.block) c.loop-i.fixing c.loop-i.i c.loop-i.invariant.fixing end c.count.result c.count.ensures.count (omega (arith, c.count.ensures.some))
+    size_is M c.count-i-end.ensures.maps b c.requires.block c.loop-i.fixing c.loop-i.i c.loop-i.invariant.fixing end c.count.result c.count.ensures.count (omega (arith, c.count.ensures.some))

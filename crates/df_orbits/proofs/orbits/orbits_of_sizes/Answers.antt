@@ -8,9 +8,9 @@ use Rattle.df_subsets.specs.Blocks.{before}
 use Rattle.df_subsets.specs.Subsets.{subsets, binomial}
 use Rattle.df_subsets.proofs.BlockOrders.{before_is}
 use Rattle.df_maps.specs.FullMaps.{point_count}
-use Rattle.df_orbits.specs.OrbitClasses.{classes_of}
+use Rattle.df_orbits.specs.Orbits.{orbits_with_sizes}
 use Rattle.df_orbits.specs.declared.orbits.Orbit.{Orbit}
-use Rattle.df_orbits.proofs.SizedClasses.{sized_classes}
+use Rattle.df_orbits.proofs.SizedOrbits.{sized_orbits_found}
 use Rattle.df_orbits.proofs.SizeSums.{sum_more, sum_part, rising_distinct}
 use Rattle.df_orbits.proofs.orbits.orbits_of_sizes.Goals as goal
 
@@ -37,7 +37,7 @@ find-requires-clause-few c =
 pub loop-size-preserved : goal.loop-size-preserved
 loop-size-preserved c =
     let M = c.args.images.now in
-    let f = λ (k : ℕ). classes_of M (subsets (point_count M) k) in
+    let f = λ (k : ℕ). orbits_with_sizes M (subsets (point_count M) k) in
     c.in_ok-find.ensures
     ∙ ap (λ l. l ++ f (get_or c.args.sizes.now c.loop-size.size-index 0)) c.loop-size.invariant ∙ sym (flat_more f c.args.sizes.now c.loop-size.size-index 0 c.loop-size-test.true)
 
@@ -49,8 +49,8 @@ returns c =
     let new = c.sort.new.self.items in
     let none : Orbit = record { block = []; size = 0 } in
     let block = λ (o : Orbit). o.block in
-    let whole = c.loop-size.invariant ∙ ap (flat_map (λ k. classes_of M (subsets (point_count M) k))) (take_all c.loop-size.size-index sizes c.loop-size-test.false) in
-    sized_classes M c.points.ensures.maps sizes items new whole c.in_ok-sort.ensures.permutation (rising_distinct sizes c.requires.rising)
+    let whole = c.loop-size.invariant ∙ ap (flat_map (λ k. orbits_with_sizes M (subsets (point_count M) k))) (take_all c.loop-size.size-index sizes c.loop-size-test.false) in
+    sized_orbits_found M c.points.ensures.maps sizes items new whole c.in_ok-sort.ensures.permutation (rising_distinct sizes c.requires.rising)
     (λ i l.
     let long = length-map new block in
     let x = get_or new (i + 1) none in

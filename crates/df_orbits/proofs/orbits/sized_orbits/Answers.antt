@@ -2,7 +2,7 @@ use Rattle.std.proofs.Common.{◌≤◌, ◌∙◌, ap, sym, subst, arith, All}
 use Rattle.std.specs.List.{sum_by}
 use Rattle.df_subsets.specs.Subsets.{binomial}
 use Rattle.df_maps.specs.FullMaps.{point_count}
-use Rattle.df_orbits.specs.OrbitClasses.{block_classes}
+use Rattle.df_orbits.specs.Orbits.{block_orbits}
 use Rattle.df_orbits.proofs.orbits.sized_orbits.Goals as goal
 
 pub orbits_of_sizes-requires-clause-range : goal.orbits_of_sizes-requires-clause-range
@@ -15,4 +15,4 @@ orbits_of_sizes-requires-clause-few c =
     subst (λ M. sum_by (binomial (point_count M)) sizes ≤ 8000000) (sym c.in_ok-images.ensures) (omega (arith, sum, c.if-sum-gt-MOST_SUMMED.false))
 
 pub returns-in-Ok-clause-sized : goal.returns-in-Ok-clause-sized
-returns-in-Ok-clause-sized c = c.in-Ok.ensures ∙ ap (λ M. block_classes M c.args.sizes.now) c.in_ok-images.ensures
+returns-in-Ok-clause-sized c = c.in-Ok.ensures ∙ ap (λ M. block_orbits M c.args.sizes.now) c.in_ok-images.ensures

@@ -1,5 +1,6 @@
 use Rattle.std.proofs.Common.{arith}
-use Rattle.df_subsets.proofs.BlockLaws.{Rises-more, has_more, length_more}
+use Rattle.df_lists.proofs.RisingLists.{Rises-more, has_more}
+use Rattle.df_subsets.proofs.BlockLaws.{length_more}
 use Rattle.df_subsets.proofs.laws.blocks_are_extended.Goals as goal
 
 pub returns : goal.returns

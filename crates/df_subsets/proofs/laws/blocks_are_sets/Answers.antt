@@ -1,5 +1,6 @@
 use Rattle.std.proofs.Common.{arith}
-use Rattle.df_subsets.proofs.BlockLaws.{same_points, block_of_below, block_is_set, set_is_block}
+use Rattle.df_lists.proofs.SetLaws.{same_points}
+use Rattle.df_subsets.proofs.BlockLaws.{block_of_below}
 use Rattle.df_lists.proofs.RisingLists.{Rises-bound, length_fits}
 use Rattle.df_lists.proofs.RisingLists.{point_below}
 use Rattle.df_subsets.proofs.laws.blocks_are_sets.Goals as goal
@@ -11,6 +12,4 @@ returns c = record {
   few = λ v b r. let f = length_fits 0 v b (omega arith) r in omega (arith, f);
   same = same_points 0;
   below = block_of_below;
-  to_set = block_is_set;
-  from_set = set_is_block;
 }

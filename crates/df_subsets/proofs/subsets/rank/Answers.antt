@@ -1,6 +1,6 @@
 use Rattle.std.proofs.Common.{◌≡◌, ℕ, ◌+◌, ◌-◌, ◌^◌, ◌<◌, ◌≤◌, ◌∷◌, List, ap, sym, subst, refl, ◌∙◌, arith, length, drop, get_or}
 use Rattle.std.proofs.lemmas.List.{drop_more, drop_all, length-drop}
-use Rattle.df_subsets.specs.Blocks.{IsBlock}
+use Rattle.df_lists.specs.NumberSets.{IsSet}
 use Rattle.df_subsets.specs.Subsets.{binomial, rank}
 use Rattle.df_lists.proofs.RisingLists.{point_below}
 use Rattle.df_subsets.proofs.Binomials.{binomial_fits}
@@ -14,7 +14,7 @@ counted v b i x left h at e =
     let long : length (x ∷ drop (i + 1) b) ≡ left = sym (ap length split) ∙ length-drop i b ∙ omega (arith, e) in
     ap (later v) split ∙ ap (λ n. binomial (v - 1 - x) n + later v (drop (i + 1) b)) long
 
-few : (v : ℕ) (b : List ℕ) → v ≤ 128 → IsBlock v b → later v b < 2 ^ 128
+few : (v : ℕ) (b : List ℕ) → v ≤ 128 → IsSet v b → later v b < 2 ^ 128
 few v b h r = let a = rank_later v b r in let f = binomial_fits v (length b) h in omega (arith, a, f)
 
 pub loop-p-init : goal.loop-p-init
@@ -60,7 +60,7 @@ loop-p-preserved c =
     }
 
 -- all points are counted
-whole : (v later_count size i : ℕ) (b : List ℕ) → length b ≤ i → later_count + later v (drop i b) ≡ later v b → size ≡ length b → IsBlock v b → rank v b + later_count + 1 ≡ binomial v size
+whole : (v later_count size i : ℕ) (b : List ℕ) → length b ≤ i → later_count + later v (drop i b) ≡ later v b → size ≡ length b → IsSet v b → rank v b + later_count + 1 ≡ binomial v size
 whole v m size i b h e s r =
     let none : later v (drop i b) ≡ 0 = ap (later v) (drop_all i b h) in
     let a = rank_later v b r in

@@ -2,10 +2,9 @@ use Rattle.std.proofs.Common.{◌≡◌, ℕ, suc, zero, ◌+◌, ◌-◌, ◌<�
 use Rattle.std.specs.List.{range_with_len}
 use Rattle.std.proofs.lemmas.List.{append_assoc}
 use Rattle.std.proofs.lemmas.Option.{slice_get-get_or}
-use Rattle.df_lists.specs.NumberSets.{with_member}
-use Rattle.df_subsets.specs.Blocks.{Rises}
+use Rattle.df_lists.specs.NumberSets.{with_member, Rises}
 use Rattle.df_subsets.specs.Subsets.{choose, subsets, binomial}
-use Rattle.df_subsets.proofs.BlockLaws.{Rises-wider, Rises-more}
+use Rattle.df_lists.proofs.RisingLists.{Rises-wider, Rises-more}
 use Rattle.df_subsets.proofs.BlockBits.{with_last}
 use Rattle.df_subsets.proofs.SubsetLists.{subsets_long}
 use Rattle.df_subsets.proofs.Places.{inside_at, rank_of, with_first_at, without_first_at}

@@ -1,6 +1,6 @@
 use Rattle.std.proofs.Common.{◌≡◌, ◌-◌, ◌<◌, ◌++◌, [], get_or}
 use Rattle.std.specs.List.{range_with_len}
-use Rattle.df_subsets.specs.Blocks.{Rises}
+use Rattle.df_lists.specs.NumberSets.{Rises}
 use Rattle.df_subsets.specs.Subsets.{choose, subsets, binomial}
 use Rattle.df_subsets.proofs.subsets.unrank.Given as goal
 

@@ -1,7 +1,7 @@
 use Rattle.std.proofs.Common.{◌+◌, ◌-◌, ◌∷◌, List, ℕ, drop, ap, sym, ◌∙◌, subst, arith}
 use Rattle.std.specs.List.{range_with_len}
 use Rattle.df_group.specs.Elements.{order_of}
-use Rattle.df_lang.specs.declared.parts.Member.{Member}
+use Rattle.df_lang.specs.declared.pieces.Member.{Member}
 use Rattle.df_group.proofs.ElementLaws.{is_group}
 use Rattle.df_group.proofs.SubgroupLaws.{subgroup_closed}
 use Rattle.df_family.specs.Remainders.{is_listed_shift, rest_from, IsListedOf}

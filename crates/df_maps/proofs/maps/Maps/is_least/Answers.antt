@@ -2,14 +2,14 @@ use Rattle.std.proofs.Common.{◌≡◌, ◌∙◌, ℕ, List, not, ap, sym, len
 use Rattle.std.specs.List.{list_all, range_with_len}
 use Rattle.df_subsets.specs.Blocks.{before}
 use Rattle.df_subsets.proofs.BlockOrders.{before_is}
-use Rattle.df_acting.specs.Earliest.{is_earliest}
+use Rattle.df_acting.specs.Representatives.{is_representative}
 use Rattle.df_maps.specs.FullMaps.{MapGroup, image, map_number, full_maps}
 use Rattle.df_maps.specs.Laws.{AreGroup}
 use Rattle.df_maps.proofs.LoopSteps.{all_more, all_fails, all-map}
 use Rattle.df_maps.proofs.maps.Maps.is_least.Goals as goal
 
 -- by the maps' numbers
-by_numbers : (M : MapGroup) (b : List ℕ) → AreGroup M → is_earliest before (image M) (full_maps M) b ≡ list_all (λ j. not (before (image M (map_number M j) b) b)) (range_with_len 0 (length (full_maps M)))
+by_numbers : (M : MapGroup) (b : List ℕ) → AreGroup M → is_representative before (image M) (full_maps M) b ≡ list_all (λ j. not (before (image M (map_number M j) b) b)) (range_with_len 0 (length (full_maps M)))
 by_numbers M b is = ap (list_all (λ g. not (before (image M g b) b))) is.numbered ∙ all-map (λ g. not (before (image M g b) b)) (map_number M) (range_with_len 0 (length (full_maps M)))
 
 pub loop-i-preserved : goal.loop-i-preserved

@@ -1,9 +1,10 @@
 use Rattle.std.proofs.Common.{◌≡◌, ◌∙◌, ◌+◌, ℕ, List, Bool, cond, true, false, ap, sym, subst, length, map, arith}
 use Rattle.std.specs.List.{range_with_len}
 use Rattle.std.proofs.lemmas.Simd.{map-map}
-use Rattle.df_subsets.specs.Blocks.{before, IsBlock}
+use Rattle.df_lists.specs.NumberSets.{IsSet}
+use Rattle.df_subsets.specs.Blocks.{before}
 use Rattle.df_subsets.proofs.BlockOrders.{before_is}
-use Rattle.df_acting.specs.Earliest.{earliest, earliest_image}
+use Rattle.df_acting.specs.Representatives.{earliest, representative_by}
 use Rattle.df_maps.specs.FullMaps.{MapGroup, image, map_number, full_maps, point_count}
 use Rattle.df_maps.specs.Laws.{AreGroup}
 use Rattle.df_maps.proofs.LoopSteps.{earliest_more}
@@ -11,7 +12,7 @@ use Rattle.df_maps.proofs.maps.Maps.least_image.Goals as goal
 use Rattle.df_maps.proofs.maps.Maps.least_image.Goals.{then-lt, else-lt}
 
 -- by the maps' numbers
-by_numbers : (M : MapGroup) (b : List ℕ) → AreGroup M → earliest_image before (image M) (full_maps M) b ≡ earliest before b (map (λ j. image M (map_number M j) b) (range_with_len 0 (length (full_maps M))))
+by_numbers : (M : MapGroup) (b : List ℕ) → AreGroup M → representative_by before (image M) (full_maps M) b ≡ earliest before b (map (λ j. image M (map_number M j) b) (range_with_len 0 (length (full_maps M))))
 by_numbers M b is = ap (λ l. earliest before b (map (λ g. image M g b) l)) is.numbered ∙ ap (earliest before b) (map-map (λ g. image M g b) (map_number M) (range_with_len 0 (length (full_maps M))))
 
 step : (M : MapGroup) (b old new x : List ℕ) (i : ℕ) (v : Bool) → old ≡ earliest before b (map (λ j. image M (map_number M j) b) (range_with_len 0 i)) → x ≡ image M (map_number M i) b → before x old ≡ v → new ≡ cond v x old → new ≡ earliest before b (map (λ j. image M (map_number M j) b) (range_with_len 0 (i + 1)))
@@ -26,12 +27,12 @@ loop-i-preserved c =
     elim c.if-lt.branch [
       | then-lt w ↦ record {
         image = step M b c.loop-i.least c.if-lt.least c.image_block-image.result c.loop-i.i true c.loop-i.invariant.image c.image_block-image.ensures.image (test ∙ w.if-lt.true) w.least-is;
-        block = subst (IsBlock (point_count M)) (sym w.least-is) c.image_block-image.ensures.block;
+        block = subst (IsSet (point_count M)) (sym w.least-is) c.image_block-image.ensures.block;
         size = ap length w.least-is ∙ c.image_block-image.ensures.size;
       }
       | else-lt w ↦ record {
         image = step M b c.loop-i.least c.if-lt.least c.image_block-image.result c.loop-i.i false c.loop-i.invariant.image c.image_block-image.ensures.image (test ∙ w.if-lt.false) w.least-is;
-        block = subst (IsBlock (point_count M)) (sym w.least-is) c.loop-i.invariant.block;
+        block = subst (IsSet (point_count M)) (sym w.least-is) c.loop-i.invariant.block;
         size = ap length w.least-is ∙ c.loop-i.invariant.size;
       }
     ]

@@ -1,5 +1,4 @@
 use Rattle.std.proofs.Common.{◌≡◌, ◌∙◌, true, false, sym, length, arith}
-use Rattle.df_subsets.proofs.BlockLaws.{block_is_set}
 use Rattle.df_maps.specs.FullMaps.{full_maps, point_count}
 use Rattle.df_maps.proofs.FixingCounts.{fixing_more, fixing_some, size_is}
 use Rattle.df_maps.proofs.maps.Maps.orbit_size.Goals as goal
@@ -18,10 +17,10 @@ pub nonzero_div-result : goal.nonzero_div-result
 nonzero_div-result c =
     let M = c.args.self.now in
     let end : length (full_maps M) ≡ c.loop-i.i = omega (arith, c.count-i-end.ensures.count) in
-    fixing_some M c.count-i-end.ensures.maps c.args.block.now (block_is_set (point_count M) c.args.block.now c.requires) c.loop-i.fixing c.loop-i.i c.loop-i.invariant.0 end (omega (arith, c.count-i-end.ensures.count, c.count-i-end.ensures.some))
+    fixing_some M c.count-i-end.ensures.maps c.args.block.now c.requires c.loop-i.fixing c.loop-i.i c.loop-i.invariant.0 end (omega (arith, c.count-i-end.ensures.count, c.count-i-end.ensures.some))
 
 pub returns : goal.returns
 returns c =
     let M = c.args.self.now in
     let end : length (full_maps M) ≡ c.loop-i.i = omega (arith, c.count-i-end.ensures.count) in
-    size_is M c.count-i-end.ensures.maps c.args.block.now (block_is_set (point_count M) c.args.block.now c.requires) c.loop-i.fixing c.loop-i.i c.loop-i.invariant.0 end c.count.result c.count.ensures.count (omega (arith, c.count.ensures.some))
+    size_is M c.count-i-end.ensures.maps c.args.block.now c.requires c.loop-i.fixing c.loop-i.i c.loop-i.invariant.0 end c.count.result c.count.ensures.count (omega (arith, c.count.ensures.some))

@@ -23,7 +23,7 @@ pub returns-clause-block : goal.returns-clause-block
 returns-clause-block c =
     let f = c.numbers_are_few.ensures c.args.self.now (are c).stated in
     let sets = c.blocks_are_sets.ensures in
-    sets.from_set (point_count c.args.self.now) c.rep.result (f.orbit c.rep.result (member c)).set
+    (f.orbit c.rep.result (member c)).set
 
 pub returns-clause-size : goal.returns-clause-size
 returns-clause-size c =

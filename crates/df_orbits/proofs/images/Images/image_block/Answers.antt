@@ -5,7 +5,6 @@ use Rattle.std.proofs.Math.Bool.{or_comm}
 use Rattle.df_lists.specs.NumberSets.{has_member}
 use Rattle.df_lists.proofs.RisingLists.{point_below}
 use Rattle.df_lists.proofs.TestLaws.{any_take_more}
-use Rattle.df_subsets.proofs.BlockLaws.{block_is_set}
 use Rattle.df_acting.proofs.ImageLaws.{length-image, image_done}
 use Rattle.df_maps.specs.FullMaps.{point_count, carried, map_number, image, full_maps}
 use Rattle.df_maps.specs.Laws.{AreGroup}
@@ -40,9 +39,9 @@ returns c =
     let g = map_number M c.args.i in
     let to = λ (p : ℕ). carried M g p in
     let whole = λ (q : ℕ). c.loop-p.invariant.has q ∙ ap (list_any (λ p. eqb (to p) q)) (take_all c.loop-p.p-index points c.loop-p-test.false) in
-    let is : c.loop-p.image ≡ image M g points = image_done (point_count M) to points c.loop-p.image (block_is_set (point_count M) c.loop-p.image c.loop-p.invariant.block) whole in
+    let is : c.loop-p.image ≡ image M g points = image_done (point_count M) to points c.loop-p.image c.loop-p.invariant.block whole in
     record {
       image = is;
       block = c.loop-p.invariant.block;
-      size = ap length is ∙ length-image (carried M) (point_count M) (full_maps M) A.group g points (number_in M A c.args.i c.requires.number) (block_is_set (point_count M) points c.requires.block);
+      size = ap length is ∙ length-image (carried M) (point_count M) (full_maps M) A.group g points (number_in M A c.args.i c.requires.number) c.requires.block;
     }

@@ -12,4 +12,4 @@ returns c =
     let within = number_place own.maps c.args.self.now own.points items c.self.invariant c.self.view_is c.args.p c.args.q c.requires.order c.requires.points in
     let at = get_or_read items index c.index.result.now (subst (λ k. k < length items) (sym place) within) c.index.ensures 0 ∙ ap (λ k. get_or items k 0) place in
     let is = number_found own.maps c.args.self.now own.points items c.self.invariant c.self.view_is c.args.p c.args.q c.index.result.now c.requires.order c.requires.points at in
-    record { number = is.number; within = is.within; earliest = is.earliest; class = is.class }
+    record { number = is.number; within = is.within; representative = is.representative; orbit = is.orbit }

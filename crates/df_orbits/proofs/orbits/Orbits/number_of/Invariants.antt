@@ -1,6 +1,6 @@
 use Rattle.std.proofs.Common.{◌≡◌, ◌<◌, ◌≤◌, ◌-◌, ℕ, [], true, false, length, get_or}
 use Rattle.df_subsets.specs.Blocks.{before}
-use Rattle.df_orbits.specs.OrbitClasses.{first_members}
+use Rattle.df_orbits.specs.Orbits.{listed_representatives}
 use Rattle.df_orbits.proofs.orbits.Orbits.number_of.Given as goal
 
 -- what lies before `low` is earlier, and what lies from `high` on is not
@@ -8,8 +8,8 @@ abbrev pub invariant-loop-low : goal.invariant-loop-low
 invariant-loop-low l = record {
   order : l.low ≤ l.high;
   end : l.high ≤ length l.self;
-  below : (i : ℕ) → i < l.low → before (get_or (first_members l.self) i []) l.least ≡ true;
-  above : (i : ℕ) → l.high ≤ i → i < length l.self → before (get_or (first_members l.self) i []) l.least ≡ false;
+  below : (i : ℕ) → i < l.low → before (get_or (listed_representatives l.self) i []) l.least ≡ true;
+  above : (i : ℕ) → l.high ≤ i → i < length l.self → before (get_or (listed_representatives l.self) i []) l.least ≡ false;
 }
 
 abbrev pub decreases-loop-low : goal.decreases-loop-low

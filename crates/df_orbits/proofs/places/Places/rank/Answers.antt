@@ -1,6 +1,6 @@
 use Rattle.std.proofs.Common.{◌≡◌, ◌<◌, ◌≤◌, ◌+◌, ◌-◌, ◌*◌, ◌∙◌, ℕ, ap, ap₂, sym, subst, arith, length, drop, get_or, slice_get}
 use Rattle.std.proofs.lemmas.List.{get_or_read}
-use Rattle.df_subsets.specs.Blocks.{IsBlock}
+use Rattle.df_lists.specs.NumberSets.{IsSet}
 use Rattle.df_subsets.specs.Subsets.{subsets, rank, binomial}
 use Rattle.df_subsets.proofs.Places.{later, rank_below, at_rank}
 use Rattle.df_orbits.proofs.LaterCounts.{later_place, later_found, later_few, later_whole}
@@ -19,7 +19,7 @@ index-requires c =
     let b = c.args.block.now in
     let i = c.loop-p.p-index in
     let x = c.p-item.result in
-    let block = subst (λ v. IsBlock v b) (sym (ap (λ (p : ℕ × ℕ). p.0) c.self.view_is)) c.requires.within in
+    let block = subst (λ v. IsSet v b) (sym (ap (λ (p : ℕ × ℕ). p.0) c.self.view_is)) c.requires.within in
     let size = c.requires.size ∙ sym (ap (λ (p : ℕ × ℕ). p.1) c.self.view_is) in
     let inside : i < length b = omega (arith, c.loop-p-test.true, ap length c.loop-p.invariant.items) in
     let at = subst (λ l. x ≡ get_or l i x) c.loop-p.invariant.items c.p-item.is in
@@ -34,7 +34,7 @@ overflow_add-later c =
     let x = c.p-item.result in
     let y = c.index.result.now in
     let table = own.later.items in
-    let block = subst (λ v. IsBlock v b) (sym (ap (λ (p : ℕ × ℕ). p.0) c.self.view_is)) c.requires.within in
+    let block = subst (λ v. IsSet v b) (sym (ap (λ (p : ℕ × ℕ). p.0) c.self.view_is)) c.requires.within in
     let size = c.requires.size ∙ sym (ap (λ (p : ℕ × ℕ). p.1) c.self.view_is) in
     let inside : i < length b = omega (arith, c.loop-p-test.true, ap length c.loop-p.invariant.items) in
     let at = subst (λ l. x ≡ get_or l i x) c.loop-p.invariant.items c.p-item.is in
@@ -53,7 +53,7 @@ loop-p-preserved c =
     let x = c.p-item.result in
     let y = c.index.result.now in
     let table = own.later.items in
-    let block = subst (λ v. IsBlock v b) (sym (ap (λ (p : ℕ × ℕ). p.0) c.self.view_is)) c.requires.within in
+    let block = subst (λ v. IsSet v b) (sym (ap (λ (p : ℕ × ℕ). p.0) c.self.view_is)) c.requires.within in
     let size = c.requires.size ∙ sym (ap (λ (p : ℕ × ℕ). p.1) c.self.view_is) in
     let inside : i < length b = omega (arith, c.loop-p-test.true, ap length c.loop-p.invariant.items) in
     let at = subst (λ l. x ≡ get_or l i x) c.loop-p.invariant.items c.p-item.is in
@@ -71,7 +71,7 @@ pub overflow_sub-result : goal.overflow_sub-result
 overflow_sub-result c =
     let own = c.self.inside in
     let b = c.args.block.now in
-    let block = subst (λ v. IsBlock v b) (sym (ap (λ (p : ℕ × ℕ). p.0) c.self.view_is)) c.requires.within in
+    let block = subst (λ v. IsSet v b) (sym (ap (λ (p : ℕ × ℕ). p.0) c.self.view_is)) c.requires.within in
     let size = c.requires.size ∙ sym (ap (λ (p : ℕ × ℕ). p.1) c.self.view_is) in
     omega (arith, later_few own.points own.size own.all own.later.items c.self.invariant b block size)
 
@@ -79,7 +79,7 @@ pub overflow_sub-result-2 : goal.overflow_sub-result-2
 overflow_sub-result-2 c =
     let own = c.self.inside in
     let b = c.args.block.now in
-    let block = subst (λ v. IsBlock v b) (sym (ap (λ (p : ℕ × ℕ). p.0) c.self.view_is)) c.requires.within in
+    let block = subst (λ v. IsSet v b) (sym (ap (λ (p : ℕ × ℕ). p.0) c.self.view_is)) c.requires.within in
     let size = c.requires.size ∙ sym (ap (λ (p : ℕ × ℕ). p.1) c.self.view_is) in
     let few = subst (λ w. later w b < own.all) (sym c.from-width.ensures) (later_few own.points own.size own.all own.later.items c.self.invariant b block size) in
     omega (arith, c.loop-p.invariant.counted, few)
@@ -90,7 +90,7 @@ returns c =
     let b = c.args.block.now in
     let v = c.args.self.now.0 in
     let k = c.args.self.now.1 in
-    let block = subst (λ v. IsBlock v b) (sym (ap (λ (p : ℕ × ℕ). p.0) c.self.view_is)) c.requires.within in
+    let block = subst (λ v. IsSet v b) (sym (ap (λ (p : ℕ × ℕ). p.0) c.self.view_is)) c.requires.within in
     let size = c.requires.size ∙ sym (ap (λ (p : ℕ × ℕ). p.1) c.self.view_is) in
     let end : length b ≤ c.loop-p.p-index = omega (arith, c.loop-p-test.false, ap length c.loop-p.invariant.items) in
     let counted = subst (λ w. c.loop-p.later + later w (drop c.loop-p.p-index b) ≡ later w b) c.from-width.ensures c.loop-p.invariant.counted in

@@ -1,12 +1,11 @@
 use Rattle.std.proofs.Common.{◌≡◌, arith, ap, sym, subst, length, ◌∙◌}
-use Rattle.df_lists.specs.NumberSets.{has_member, with_member}
+use Rattle.df_lists.specs.NumberSets.{has_member, with_member, IsSet}
 use Rattle.df_lists.proofs.RisingLists.{has_more, Rises-more}
-use Rattle.df_subsets.specs.Blocks.{IsBlock}
-use Rattle.df_subsets.proofs.BlockLaws.{length_more, set_is_block}
+use Rattle.df_subsets.proofs.BlockLaws.{length_more}
 use Rattle.df_subsets.proofs.block.Block.insert.Goals as goal
 
 pub invariant_of-self : goal.invariant_of-self
-invariant_of-self c = set_is_block 128 c.insert.new.self c.insert.ensures.set
+invariant_of-self c = c.insert.ensures.set
 
 pub returns : goal.returns
 returns c =
@@ -16,6 +15,6 @@ returns c =
     record {
       list = is;
       points = λ q. ap (λ l. has_member l q) is ∙ has_more p q b;
-      size = ap length is ∙ length_more 0 128 p b (subst (IsBlock 128) c.self.view_is c.self.invariant);
-      within = λ v h r. subst (IsBlock v) (sym is) (Rises-more 0 v p b (omega arith) h r);
+      size = ap length is ∙ length_more 0 128 p b (subst (IsSet 128) c.self.view_is c.self.invariant);
+      within = λ v h r. subst (IsSet v) (sym is) (Rises-more 0 v p b (omega arith) h r);
     }
