@@ -6,20 +6,25 @@
 //! Laws for the rooms above: proofs/Joining, proofs/NumbersBack, proofs/Writing.
 #![tactic(auto)]
 
+mod ahead;
 mod bytes;
 mod giving;
 mod laws;
+mod line_source;
 mod lines;
 mod mem;
 mod numbers;
+mod reading;
 mod std_streams;
 mod sure;
 mod texts;
 mod tokens;
 mod traits;
 
+pub use ahead::PIECE;
 pub use bytes::{MOST_BYTES, ReadError, WriteFault, read_all, write_all};
 pub use laws::{lines_are_read_back, numbers_are_read_back, tokens_are_read_back};
+pub use line_source::LineSource;
 pub use lines::{Line, Lines};
 pub use mem::{MemSink, MemSource};
 pub use numbers::{NumberRead, read_number};
