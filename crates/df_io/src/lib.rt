@@ -1,6 +1,6 @@
 //! Where bytes come from and go to, and what a text of bytes says: sources and sinks with their counts of faults,
 //! whole inputs and outputs, lines, tokens and decimal numbers.
-//! It stands on `arrayvec` alone, for buffers of a fixed size.
+//! It stands on `arrayvec`, for buffers of a fixed size, and on `memchr`, for the search for line feeds.
 //! The crates above may use each name below: a clause sees a source as the bytes it has left, a sink as the bytes it
 //! has taken, and a text as the lists of `specs/Lines` and `specs/Number`.
 //! Laws for the rooms above: proofs/Joining, proofs/NumbersBack, proofs/Writing.
