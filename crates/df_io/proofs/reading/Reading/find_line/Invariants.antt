@@ -1,0 +1,13 @@
+use Rattle.std.proofs.Common.{ℕ, ◌+◌, ◌-◌, ◌≡◌, None, Some, Ok, cond, is_some, length}
+use Rattle.std.specs.Io.KnownBytes.{Consumes, IsAtEnd}
+use Rattle.df_io.specs.Joined.{Lacks, is_line_feed}
+use Rattle.df_io.specs.Streams.{to_come}
+use Rattle.df_io.specs.LineSteps.{Searches}
+use Rattle.df_io.proofs.reading.Reading.find_line.Given as goal
+
+abbrev pub invariant-loop-self : goal.invariant-loop-self
+invariant-loop-self g l = Searches g.S.Source.left g.S.Source.faults l.initial.self l.self l.initial.input l.input
+
+-- a piece has a byte, and one byte more than the limit ends the reading
+abbrev pub decreases-loop-self : goal.decreases-loop-self
+decreases-loop-self g l = cond (is_some l.self.ended) 0 ((l.self.limit + 1) - l.self.taken)
