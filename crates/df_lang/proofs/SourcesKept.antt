@@ -1,6 +1,7 @@
 -- A problem that a source states keeps its rules: each line keeps them, and there are fewer names than lines.
 use Rattle.std.proofs.Common.{◌≡◌, ◌==◌, ℕ, ◌+◌, ◌-◌, ◌^◌, ◌<◌, ◌≤◌, Bool, true, false, List, [], ◌∷◌, ◌++◌, length, map, Option, Some, None, is_none, unwrap_or, Result, Ok, Err, ok_or, bytes_eq, codes, min, nat_lt, refl, sym, ap, ◌∙◌, arith, subst, if◌then◌else◌}
 use Rattle.std.proofs.lemmas.List.{length_push, length-map}
+use Rattle.df_io.specs.declared.bytes.TheConstants.{MOST_BYTES}
 use Rattle.df_io.specs.Lines.{lines_of, tokens_of, onto_line}
 use Rattle.df_group.specs.Elements.{order_of}
 use Rattle.df_group.specs.Subgroups.{exponent_of}
@@ -121,14 +122,14 @@ line_taken a b (first ∷ tokens) h = by (is_none a.version) (bytes_eq first (co
   by true false h = statement_taken (record a { version = Some 1 }) b tokens first h
   by false v h = statement_taken a b tokens first h
 
-stated_kept : (a : Above) (fs ks : List ℕ) (n : ℕ) (s : Stated) → StandsKept a → taken a ≤ 2 ^ 32 → a.group ≡ Some fs → a.sizes ≡ Some ks → a.lambda ≡ Some n
+stated_kept : (a : Above) (fs ks : List ℕ) (n : ℕ) (s : Stated) → StandsKept a → taken a ≤ MOST_BYTES → a.group ≡ Some fs → a.sizes ≡ Some ks → a.lambda ≡ Some n
     → ◌≡◌ {A = Result Stated SourceFault} (Ok (stated_of a fs ks n)) (Ok s) → IsStated s
 stated_kept a fs ks n s kept few group sized targeted h =
     let one : grouped a.group ≡ 1 = ap grouped group in
     let is : stated_of a fs ks n ≡ s = cc in
     subst IsStated is (whole_kept a fs ks n kept group sized targeted (omega (arith, one, few)))
 
-end_kept : (a : Above) (s : Stated) → StandsKept a → taken a ≤ 2 ^ 32 → whole a ≡ Ok s → IsStated s
+end_kept : (a : Above) (s : Stated) → StandsKept a → taken a ≤ MOST_BYTES → whole a ≡ Ok s → IsStated s
 unfolding whole
 end_kept a s kept few h =
     let fs = bind_kept (group_of a) (λ fs. sizes_of a >>= λ ks. lambda_of a >>= λ n. Ok (stated_of a fs ks n)) s h in
@@ -140,7 +141,7 @@ at_end : (r : Result Stated SourceFault) (s : Stated) → at_line 0 r ≡ Ok s �
 at_end (Ok t) s h = cc
 at_end (Err f) s h = absurd cc
 
-from_line_kept : (n : ℕ) (a : Above) (lines : List (List (List ℕ))) (s : Stated) → StandsKept a → taken a + length lines ≤ 2 ^ 32 → from_line n a lines ≡ Ok s → IsStated s
+from_line_kept : (n : ℕ) (a : Above) (lines : List (List (List ℕ))) (s : Stated) → StandsKept a → taken a + length lines ≤ MOST_BYTES → from_line n a lines ≡ Ok s → IsStated s
 unfolding from_line
 from_line_kept n a [] s kept few h = end_kept a s kept (omega (arith, few)) (at_end (whole a) s h)
 from_line_kept n a (tokens ∷ lines) s kept few h =
@@ -163,7 +164,7 @@ few_lines (b ∷ bs) = by (few_lines bs) (b == 10) where
   by few true = omega (arith, few)
   by few false = omega (arith, onto_lines b (length bs) (lines_of bs) few)
 
-pub source_kept : (bytes : List ℕ) (s : Stated) → length bytes ≤ 2 ^ 32 → source bytes ≡ Ok s → IsStated s
+pub source_kept : (bytes : List ℕ) (s : Stated) → length bytes ≤ MOST_BYTES → source bytes ≡ Ok s → IsStated s
 unfolding source
 source_kept bytes s few h =
     from_line_kept 1 nothing (map tokens_of (lines_of bytes)) s nothing_kept (omega (arith, few, few_lines bytes, length-map (lines_of bytes) tokens_of)) h

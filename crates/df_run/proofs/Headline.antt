@@ -3,6 +3,7 @@ use Rattle.std.proofs.Common.{◌≡◌, ℕ, ◌≤◌, Bool, true, false, not,
 use Rattle.std.specs.Io.KnownBytes.{Appends}
 use Rattle.std.proofs.lemmas.Bool.{both_ways}
 use Rattle.std.proofs.lemmas.Option.{IfSome_then}
+use Rattle.df_io.specs.declared.bytes.TheConstants.{MOST_BYTES}
 use Rattle.df_lists.specs.Membership.{In}
 use Rattle.df_lists.proofs.MemberLaws.{In-map_gives}
 use Rattle.df_lang.specs.Problems.{Stated, IsStated}
@@ -72,11 +73,11 @@ verify_is law command line = let is = (law (codes "verify" ∷ []) command).1 li
 
 module _ (keep : SourcesKeepTheirRules) (lines : CommandLineLaw) (balance : BalanceLaw) (verdict : VerdictLaw) (i : Incoming) (o : Outgoing) where
   -- what `verify` answers to these bytes
-  done_with : (bytes : List ℕ) → length bytes ≤ 2 ^ 32 → (r : Result Stated SourceError) → source bytes ≡ r → ends.Done ≡ (answer_to Verify r).status → Appends o.written o.written_after (answer_to Verify r).text → IsAccepted o bytes
+  done_with : (bytes : List ℕ) → length bytes ≤ MOST_BYTES → (r : Result Stated SourceError) → source bytes ≡ r → ends.Done ≡ (answer_to Verify r).status → Appends o.written o.written_after (answer_to Verify r).text → IsAccepted o bytes
   done_with bytes few (Ok s) is status text = accepts balance verdict s (keep bytes s few is) bytes o is (find is_wrong (table s)) refl status text
   done_with bytes few (Err e) is status text = absurd (cc)
 
-  refused_with : (bytes : List ℕ) → length bytes ≤ 2 ^ 32 → (r : Result Stated SourceError) → source bytes ≡ r → ends.Refused ≡ (answer_to Verify r).status → IsRefused bytes
+  refused_with : (bytes : List ℕ) → length bytes ≤ MOST_BYTES → (r : Result Stated SourceError) → source bytes ≡ r → ends.Refused ≡ (answer_to Verify r).status → IsRefused bytes
   refused_with bytes few (Ok s) is status = refuses balance verdict s (keep bytes s few is) bytes is (find is_wrong (table s)) refl status
   refused_with bytes few (Err e) is status = absurd (cc)
 
