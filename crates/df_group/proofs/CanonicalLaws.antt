@@ -9,7 +9,7 @@ use Rattle.df_lists.specs.NumberSets.{has_member, IsSet}
 use Rattle.df_lists.specs.Totals.{total, one}
 use Rattle.df_lists.proofs.TotalLaws.{total_add, total_turn}
 use Rattle.df_lists.proofs.MemberLaws.{In-append_cases, In-append_left, In-append_right}
-use Rattle.df_lists.proofs.SetLaws.{same_sets}
+use Rattle.df_lists.proofs.SetLaws.{same_sets, set_picked}
 use Rattle.df_lists.proofs.TestLaws.{has_from, has_gives}
 use Rattle.df_group.specs.Elements.{group_of, order_of, minus, IsShape}
 use Rattle.df_group.specs.Subgroups.{sums, generated, canonical_from, canonical_of, IsSubgroup}
@@ -215,7 +215,7 @@ module _ (fs : List ℕ) (is : IsShape fs) where
   from_start members (gs, e) =
       let n : order_of fs - 0 ≡ order_of fs = omega arith in
       let set = subst (IsSet (order_of fs)) e (generated_set fs gs) in
-      rw n (ap (canonical_from fs []) (sym set))
+      rw n (ap (canonical_from fs []) (sym (set_picked (order_of fs) members set)))
 
   pub from_end : (members taken whole : List ℕ) (e : ℕ) → order_of fs ≤ e → canonical_from fs taken (filter (has_member members) (range_with_len e (order_of fs - e))) ≡ whole → taken ≡ whole
   from_end members taken whole e l h =

@@ -112,7 +112,7 @@ module _ (fs : List ℕ) (is : IsShape fs) where
   pub generated_whole : generated fs (range_with_len 0 (order_of fs)) ≡ range_with_len 0 (order_of fs)
   generated_whole =
       let all = range_with_len 0 (order_of fs) in
-      same_sets (order_of fs) (generated fs all) all (generated_set fs all) (sym (filter_all (has_member all) 0 (order_of fs) (λ k l m. in_range (order_of fs) k (omega arith))))
+      same_sets (order_of fs) (generated fs all) all (generated_set fs all) (subst (IsSet (order_of fs)) (filter_all (has_member all) 0 (order_of fs) (λ k l m. in_range (order_of fs) k (omega arith))) (filter_is_set (has_member all) (order_of fs)))
       (λ x l. sum_member fs is all x (sum_generator fs is all x l (In-range 0 (order_of fs) x (omega arith) (omega arith))) ∙ sym (in_range (order_of fs) x l))
 
 -- the sums of one more multiple

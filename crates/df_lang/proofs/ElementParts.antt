@@ -1,5 +1,5 @@
 -- The pieces of an element's token.
-use Rattle.std.proofs.Common.{◌≡◌, ℕ, ◌+◌, ◌*◌, ◌<◌, ◌≤◌, true, false, ltb, Bool, List, [], ◌∷◌, length, get_or, drop, drop_of_length-le, take, All, zero, suc, Bor, is_some, option_copied, Option, Some, None, Ok, Err, ok_or, refl, sym, ap, ◌∙◌, arith, tests, mul-le-mul, mul_assoc, add-mul, option_map, nat_lt, if◌then◌else◌}
+use Rattle.std.proofs.Common.{◌≡◌, ℕ, ◌+◌, ◌*◌, ◌<◌, ◌≤◌, true, false, ltb, Bool, List, [], ◌∷◌, length, get_or, drop, drop_of_length-le, take, All, zero, suc, Bor, is_some, option_copied, Option, Some, None, Ok, Err, ok_or, refl, ap, ◌∙◌, arith, tests, mul-le-mul, mul_assoc, add-mul, option_map, nat_lt, if◌then◌else◌}
 use Rattle.std.specs.List.{slice_split, position, position_or_len}
 use Rattle.std.proofs.lemmas.List.{drop_more}
 use Rattle.std.proofs.lemmas.List.Splits.{slice_split_first, slice_split_none, length-slice_split}

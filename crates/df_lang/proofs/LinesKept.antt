@@ -1,8 +1,6 @@
 -- Each line keeps the rules, and what stands above the end of a source is a problem.
-use Rattle.std.proofs.Common.{◌≡◌, ◌≢◌, ◌==◌, ℕ, ◌+◌, ◌^◌, ◌<◌, ◌≤◌, ◌⊎◌, Bool, true, false, eqb, List, [], ◌∷◌, length, All, Option, Some, None, Result, Ok, Err, IfSome, is_some, is_none, unwrap_or, ok_or, bytes_eq, codes, refl, sym, ap, ◌∙◌, arith, subst, inl, inr, if◌then◌else◌}
-use Rattle.std.specs.List.{AllPairs}
+use Rattle.std.proofs.Common.{◌≡◌, ◌==◌, ℕ, ◌<◌, Bool, true, false, List, [], ◌∷◌, length, Option, Some, None, Result, Ok, Err, IfSome, is_some, is_none, unwrap_or, ok_or, bytes_eq, codes, refl, sym, ap, ◌∙◌, arith, subst, inl, inr, if◌then◌else◌}
 use Rattle.std.proofs.lemmas.Bool.{eqb-true}
-use Rattle.df_group.specs.Elements.{order_of, IsShape}
 use Rattle.df_lang.specs.declared.fault.SourceFault.{SourceFault}
 use Rattle.df_lang.specs.declared.fault.SourceFault.TheVariants.{BadWord, BadNumber, Missing}
 use Rattle.df_lang.specs.declared.fault.Needed.TheVariants as needed
@@ -17,8 +15,8 @@ use Rattle.df_lang.specs.Rules.{◌>>=◌, allowed, once, one_number}
 use Rattle.df_lang.specs.StandsAbove.{Above, nothing, fixed_of, version_of}
 use Rattle.df_lang.specs.Values.{factors_from}
 use Rattle.df_lang.specs.Statements.{keyword_of, meaning, statement_line, first_line, version_line, step, group_line, fixed_line, subgroup_line, shift_line, mult_line, size_line, lambda_line, inside_line, hole_line, block_of, member_line, require_line, forbid_line}
-use Rattle.df_lang.specs.DraftRules.{shape_above, sizes_above, points_above, IsVersion, HeadKept, NamesKept, MultsKept, SizesKept, BlocksKept, Keeps, IsEarly, StandsKept}
-use Rattle.df_lang.proofs.RulesKept.{bind_kept, allowed_kept, there, one_number_kept}
+use Rattle.df_lang.specs.DraftRules.{shape_above, sizes_above, points_above, IsVersion, MultsKept, SizesKept, BlocksKept, Keeps, IsEarly, StandsKept}
+use Rattle.df_lang.proofs.RulesKept.{bind_kept, allowed_kept, one_number_kept}
 use Rattle.df_lang.proofs.ValuesKept.{factors_kept}
 use Rattle.df_lang.proofs.StatementsKept.{fixed_line_kept, subgroup_line_kept, shift_line_kept, mult_line_kept, size_line_kept, lambda_line_kept, inside_line_kept, hole_line_kept, member_line_kept, require_line_kept, forbid_line_kept}
 

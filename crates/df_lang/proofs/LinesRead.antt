@@ -1,5 +1,5 @@
 -- One more line of a source.
-use Rattle.std.proofs.Common.{◌≡◌, ℕ, ◌+◌, List, [], ◌∷◌, map, Result, Ok, Err, refl, sym, ap, ◌∙◌}
+use Rattle.std.proofs.Common.{◌≡◌, ℕ, ◌+◌, List, [], ◌∷◌, map, Ok, Err, refl, ap, ◌∙◌}
 use Rattle.df_io.specs.Lines.{lines_of, tokens_of}
 use Rattle.df_lang.specs.declared.fault.SourceFault.{SourceFault}
 use Rattle.df_lang.specs.StandsAbove.{Above}

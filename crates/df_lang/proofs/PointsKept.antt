@@ -1,22 +1,21 @@
 -- Blocks and names that a line may have keep the rules.
-use Rattle.std.proofs.Common.{◌≡◌, ◌≢◌, ℕ, ◌+◌, ◌-◌, ◌*◌, ◌<◌, ◌≤◌, ◌&&◌, ◌||◌, not, Bool, true, false, cond, leb, ltb, eqb, nat_le, nat_lt, List, [], ◌∷◌, ◌++◌, length, take, drop, get_or, All, Option, Some, None, Result, Ok, Err, IfSome, is_some, option_map, option_and_then, ok_or, position, bytes_eq, codes, refl, sym, ap, ◌∙◌, arith, tests, subst, true≢false, if◌then◌else◌, zero, suc}
+use Rattle.std.proofs.Common.{◌≡◌, ◌≢◌, ℕ, ◌+◌, ◌-◌, ◌<◌, ◌≤◌, ◌&&◌, ◌||◌, not, Bool, true, false, ltb, nat_le, nat_lt, List, [], ◌∷◌, length, take, drop, get_or, Option, Some, None, Ok, is_some, option_map, ok_or, bytes_eq, codes, refl, sym, ap, ◌∙◌, arith, tests, subst, true≢false, if◌then◌else◌}
 use Rattle.std.specs.Option.{option_or}
 use Rattle.std.specs.Cmp.{nat_eq_equiv}
-use Rattle.std.specs.List.{slice_split, AllPairs, position_or_len}
+use Rattle.std.specs.List.{slice_split, position_or_len}
 use Rattle.std.proofs.lemmas.List.Sums.{fails_before_first}
 use Rattle.df_lists.specs.NumberSets.{has_member, with_member, Rises}
 use Rattle.df_group.specs.Elements.{order_of, number, IsElement}
 use Rattle.df_group.specs.Subgroups.{generated}
 use Rattle.df_group.proofs.ElementLaws.{number_within}
 use Rattle.df_lists.proofs.RisingLists.{Rises-more}
-use Rattle.df_lang.specs.declared.fault.SourceFault.{SourceFault}
 use Rattle.df_lang.specs.declared.fault.SourceFault.TheVariants.{BadWord, BadElement, UnknownName, NameTaken, PointTwice, BlockSize, TargetRange}
 use Rattle.df_lang.specs.declared.pieces.Which.{Which}
 use Rattle.df_lang.specs.declared.pieces.Which.TheVariants as which
 use Rattle.df_lang.specs.declared.pieces.Inside.{Inside}
 use Rattle.df_lang.specs.Names.{is_name, is_reserved}
-use Rattle.df_lang.specs.Problems.{Named, IsNamed, DifferInName, IsSubgroupName, IsInside, IsTarget, IsBlock}
-use Rattle.df_lang.specs.Rules.{◌>>=◌, ◌>>?◌, must, allowed, next, end, value_of, number_in}
+use Rattle.df_lang.specs.Problems.{Named, IsNamed, IsSubgroupName, IsInside, IsBlock}
+use Rattle.df_lang.specs.Rules.{◌>>=◌, ◌>>?◌, must, allowed, next, end, value_of}
 use Rattle.df_lang.specs.Values.{is_comma, residues_of, element_of, fixed_point, point_of, points_from, place_of, is_taken, name_of, elements_from, subgroup_of, which_of, shift_of, target_of, inside_of}
 use Rattle.df_lang.proofs.RulesKept.{bind_kept, must_kept, allowed_kept, there, next_kept, end_kept, number_kept}
 

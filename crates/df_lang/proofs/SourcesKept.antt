@@ -1,5 +1,5 @@
 -- A problem that a source states keeps its rules: each line keeps them, and there are fewer names than lines.
-use Rattle.std.proofs.Common.{◌≡◌, ◌==◌, ℕ, ◌+◌, ◌-◌, ◌^◌, ◌<◌, ◌≤◌, Bool, true, false, List, [], ◌∷◌, ◌++◌, length, map, Option, Some, None, is_none, unwrap_or, Result, Ok, Err, ok_or, bytes_eq, codes, min, nat_lt, refl, sym, ap, ◌∙◌, arith, subst, if◌then◌else◌}
+use Rattle.std.proofs.Common.{◌≡◌, ◌==◌, ℕ, ◌+◌, ◌-◌, ◌≤◌, Bool, true, false, List, [], ◌∷◌, ◌++◌, length, map, Option, Some, None, is_none, Result, Ok, Err, ok_or, bytes_eq, codes, min, refl, ap, arith, subst, if◌then◌else◌}
 use Rattle.std.proofs.lemmas.List.{length_push, length-map}
 use Rattle.df_io.specs.declared.bytes.TheConstants.{MOST_BYTES}
 use Rattle.df_io.specs.Lines.{lines_of, tokens_of, onto_line}
@@ -9,7 +9,6 @@ use Rattle.df_lang.specs.declared.fault.SourceFault.{SourceFault}
 use Rattle.df_lang.specs.declared.fault.SourceFault.TheVariants.{BadWord, BadNumber, FixedRange, TargetRange}
 use Rattle.df_lang.specs.declared.pieces.Kind.{Kind}
 use Rattle.df_lang.specs.declared.pieces.Kind.TheVariants as kind
-use Rattle.df_lang.specs.declared.pieces.Which.TheVariants as which
 use Rattle.df_lang.specs.declared.pieces.Keyword.{Keyword}
 use Rattle.df_lang.specs.declared.pieces.Keyword.TheVariants as keyword
 use Rattle.df_lang.specs.Problems.{Named, Stated, IsStated}

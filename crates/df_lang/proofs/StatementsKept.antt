@@ -1,7 +1,5 @@
 -- Each statement keeps the rules.
-use Rattle.std.proofs.Common.{◌≡◌, ◌≢◌, ℕ, ◌+◌, ◌-◌, ◌<◌, ◌≤◌, ◌⊎◌, Bool, true, false, ltb, eqb, nat_lt, min, List, [], ◌∷◌, ◌++◌, length, get_or, All, Option, Some, None, Result, Ok, Err, IfSome, is_some, unwrap_or, ok_or, refl, sym, ap, ◌∙◌, arith, tests, subst, inl, inr, true≢false, if◌then◌else◌, zero, suc}
-use Rattle.std.specs.List.{AllPairs}
-use Rattle.std.proofs.lemmas.Bool.{eqb-true}
+use Rattle.std.proofs.Common.{◌≡◌, ℕ, ◌+◌, ◌-◌, ◌<◌, ◌≤◌, nat_lt, min, List, [], ◌∷◌, ◌++◌, length, get_or, Option, Some, None, Result, Ok, IfSome, unwrap_or, sym, ap, arith, tests, subst, true≢false}
 use Rattle.std.proofs.lemmas.List.{length_push}
 use Rattle.std.proofs.lemmas.List.Elements.{All-push}
 use Rattle.std.proofs.lemmas.List.Quantifiers.{all_pairs_push}
@@ -10,19 +8,19 @@ use Rattle.df_group.specs.Subgroups.{exponent_of}
 use Rattle.df_group.proofs.ExponentLaws.{exponent_low}
 use Rattle.df_lists.proofs.RisingLists.{Rises-wider}
 use Rattle.df_lang.specs.declared.fault.SourceFault.{SourceFault}
-use Rattle.df_lang.specs.declared.fault.SourceFault.TheVariants.{BadWord, FixedRange, TargetRange, TooManyBlocks, Missing}
+use Rattle.df_lang.specs.declared.fault.SourceFault.TheVariants.{FixedRange, TargetRange, TooManyBlocks, Missing}
 use Rattle.df_lang.specs.declared.fault.Needed.TheVariants as needed
 use Rattle.df_lang.specs.declared.pieces.Which.{Which}
 use Rattle.df_lang.specs.declared.pieces.Which.TheVariants as which
 use Rattle.df_lang.specs.declared.pieces.Inside.{Inside}
 use Rattle.df_lang.specs.declared.pieces.Kind.{Kind}
 use Rattle.df_lang.specs.declared.pieces.Member.{Member}
-use Rattle.df_lang.specs.Problems.{Named, IsNamed, DifferInName, IsSubgroupName, IsInside, IsSize, IsTarget, IsBlock}
+use Rattle.df_lang.specs.Problems.{Named, IsNamed, DifferInName, IsSubgroupName, IsInside, IsBlock}
 use Rattle.df_lang.specs.Rules.{◌>>=◌, allowed, once, one_number}
 use Rattle.df_lang.specs.StandsAbove.{Above, group_of, sizes_of, fixed_of, version_of}
-use Rattle.df_lang.specs.Values.{place_of, mults_from, subgroup_of, shift_of, sizes_read, inside_of, points_from}
+use Rattle.df_lang.specs.Values.{mults_from, subgroup_of, shift_of, sizes_read, inside_of, points_from}
 use Rattle.df_lang.specs.Statements.{fixed_line, subgroup_line, shift_line, mult_line, size_line, lambda_line, inside_line, hole_line, block_of, member_line, require_line, forbid_line}
-use Rattle.df_lang.specs.DraftRules.{shape_above, sizes_above, points_above, HeadKept, NamesKept, MultsKept, SizesKept, BlocksKept, Keeps}
+use Rattle.df_lang.specs.DraftRules.{shape_above, sizes_above, points_above, MultsKept, SizesKept, BlocksKept, Keeps}
 use Rattle.df_lang.proofs.RulesKept.{bind_kept, once_kept, allowed_kept, there, one_number_kept}
 use Rattle.df_lang.proofs.ValuesKept.{mults_kept, sizes_kept}
 use Rattle.df_lang.proofs.PointsKept.{points_kept, not_placed, subgroup_kept, shift_kept, inside_kept}

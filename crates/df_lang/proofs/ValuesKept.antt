@@ -1,28 +1,20 @@
 -- What the tokens of a line say keeps the rules.
-use Rattle.std.proofs.Common.{◌≡◌, ◌≢◌, ℕ, ◌+◌, ◌-◌, ◌*◌, ◌%◌, ◌<◌, ◌≤◌, ◌&&◌, ◌||◌, not, Bool, true, false, cond, leb, ltb, eqb, nat_le, nat_lt, min, List, [], ◌∷◌, ◌++◌, length, get_or, All, Option, Some, None, Result, Ok, Err, IfSome, is_some, option_map, ok_or, position, bytes_eq, codes, refl, sym, ap, ◌∙◌, arith, tests, subst, length-append, true≢false, if◌then◌else◌, zero, suc, mod-lt, eq-eqb}
-use Rattle.std.specs.List.{AllPairs, position_or_len}
+use Rattle.std.proofs.Common.{◌≡◌, ℕ, ◌+◌, ◌*◌, ◌%◌, ◌<◌, ◌≤◌, Bool, true, false, eqb, nat_lt, List, [], ◌∷◌, ◌++◌, length, get_or, All, Ok, refl, sym, ap, ◌∙◌, arith, tests, subst, true≢false, if◌then◌else◌, zero, suc, mod-lt, eq-eqb}
 use Rattle.std.proofs.lemmas.List.{length_push}
 use Rattle.std.proofs.lemmas.List.Elements.{All-push}
-use Rattle.std.proofs.lemmas.List.Quantifiers.{all_pairs_push}
 use Rattle.std.proofs.lemmas.Map.Keys.{apart_from_distinct}
-use Rattle.df_lists.specs.NumberSets.{has_member, with_member, IsSet, Rises}
+use Rattle.df_lists.specs.NumberSets.{has_member, with_member, Rises}
 use Rattle.df_group.specs.Elements.{order_of, IsFactor, IsShape}
-use Rattle.df_group.specs.Subgroups.{exponent_of, is_unit, generated, IsSubgroup}
+use Rattle.df_group.specs.Subgroups.{exponent_of, is_unit}
 use Rattle.df_group.proofs.UnitLaws.{unit_reduced}
 use Rattle.df_lists.proofs.RisingLists.{Rises-more, Rises-wider}
-use Rattle.df_lang.specs.declared.fault.SourceFault.{SourceFault}
-use Rattle.df_lang.specs.declared.fault.SourceFault.TheVariants.{BadWord, BadElement, UnknownName, NameTaken, NotUnit, PointTwice, BlockSize, GroupRange, SizeRange, TargetRange}
-use Rattle.df_lang.specs.declared.pieces.Which.{Which}
-use Rattle.df_lang.specs.declared.pieces.Which.TheVariants as which
-use Rattle.df_lang.specs.declared.pieces.Inside.{Inside}
-use Rattle.df_lang.specs.Names.{is_name, is_reserved}
-use Rattle.df_lang.specs.Problems.{Named, IsNamed, DifferInName, IsSubgroupName, IsInside, IsMultiplier, IsSize, IsTarget, IsBlock}
-use Rattle.df_lang.specs.Rules.{◌>>=◌, must, allowed, next, end, number_of, number_in}
-use Rattle.df_lang.specs.Values.{fits, factors_from, kept_once, mults_from, sizes_from, sizes_read, point_of, points_from, place_of, is_taken, name_of, elements_from, subgroup_of, which_of, shift_of, target_of, inside_of}
+use Rattle.df_lang.specs.declared.fault.SourceFault.TheVariants.{BadWord, NotUnit, GroupRange, SizeRange}
+use Rattle.df_lang.specs.Rules.{◌>>=◌, must, end, number_of, number_in}
+use Rattle.df_lang.specs.Values.{fits, factors_from, kept_once, mults_from, sizes_from, sizes_read}
 use Rattle.df_lang.specs.DraftRules.{MultsKept, SizesKept}
 use Rattle.df_lang.proofs.Factors.{order_push}
 use Rattle.df_lang.proofs.KeptOnce.{AreApart, apart_none, apart_more}
-use Rattle.df_lang.proofs.RulesKept.{bind_kept, must_kept, allowed_kept, there, next_kept, end_kept, number_kept}
+use Rattle.df_lang.proofs.RulesKept.{bind_kept, must_kept, next_kept, end_kept, number_kept}
 
 -- factors
 fits_kept : (factors : List ℕ) (f : ℕ) → fits factors f ≡ true → (2 ≤ f) × (f ≤ 128) × (length factors < 7) × (order_of factors * f ≤ 128)

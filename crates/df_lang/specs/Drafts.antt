@@ -1,5 +1,5 @@
 -- What a draft holds, as what stands above, and what a step of the reading has to answer.
-use Rattle.std.specs.Prelude.{◌≡◌, ℕ, map, List, Option, Some, None, option_map, Result, Ok, Err, MatchResult, ⊤, Vec}
+use Rattle.std.specs.Prelude.{◌≡◌, ℕ, map, List, option_map, Result, Ok, Err, MatchResult, ⊤, Vec}
 use Rattle.df_lang.specs.declared.fault.SourceFault.{SourceFault}
 use Rattle.df_lang.specs.declared.fault.Stop.{Stop}
 use Rattle.df_lang.specs.declared.fault.Stop.TheVariants.{Fault, OutOfMemory}

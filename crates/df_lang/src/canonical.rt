@@ -5,11 +5,11 @@ ghost use Rattle.arrayvec.specs.ArrayVec.{array_vec_len};
 ghost use Rattle.df_io.specs.Joined.{spaced};
 ghost use Rattle.df_lang.specs.Canonical.{canonical, statements_in, subgroup_tokens};
 
-use crate::problem::{NAMES_LIMIT, Problem};
 use crate::print_statements::{
     put_block_statement, put_inside, put_member, put_number_statement, put_numbers_statement,
     put_shift, put_sizes_statement, put_subgroup,
 };
+use crate::problem::{NAMES_LIMIT, Problem};
 use df_io::{LineBuf, put_text};
 
 /// A section of the canonical lines: the statements of one kind.

@@ -18,10 +18,11 @@ mod lookups;
 mod multipliers;
 mod names;
 mod pieces;
+mod print_points;
+mod print_statements;
 #[cfg(test)]
 mod printing_tests;
 mod problem;
-mod print_statements;
 mod read_points;
 mod reader;
 #[cfg(test)]
@@ -32,19 +33,18 @@ mod sizes;
 mod sources;
 mod statements;
 mod targets;
-mod print_points;
 mod tokens;
 
 pub use canonical::{canonical_lines_are_short, line_count, print};
 pub use fault::{Needed, ParseError, SourceError, SourceFault};
 pub use pieces::{Inside, Kind, Member, Name, Which};
+pub use print_points::{block_text_is_short, point_text_is_short, put_block, put_point};
 pub use problem::{MOST_BLOCKS, MOST_TARGET, NAMES_LIMIT, Problem};
 pub use read_points::read_point;
 pub use round_trip::{canonical_lines_are_read_back, problem_is_read_back};
 pub use rules::{problems_keep_their_rules, sources_keep_their_rules};
 pub use sources::parse;
 pub use targets::target;
-pub use print_points::{block_text_is_short, point_text_is_short, put_block, put_point};
 
 /// Out of memory.
 pub type OutOfMemory = std::alloc::AllocError;

@@ -9,8 +9,8 @@ ghost use Rattle.df_lang.specs.Canonical.{element_text, which_text, number_token
 ghost use Rattle.df_lang.specs.Separated.{each_after};
 
 use crate::pieces::{Inside, Kind, Member, Which};
-use crate::problem::Problem;
 use crate::print_points::{put_element, put_numbers_after, put_points_after};
+use crate::problem::Problem;
 use df_group::{Elem, Shape, Subgroup};
 use df_io::{LineBuf, put_number, put_text};
 use df_subsets::Block;

@@ -9,9 +9,9 @@ use Rattle.df_lists.proofs.TestLaws.{any_from, any_gives, has_from, has_gives}
 use Rattle.df_lists.proofs.SetLaws.{In-points, In-points_gives, filter_is_set}
 use Rattle.df_maps.specs.Products.{product_of, AllIn, products_within, products, AreProducts}
 use Rattle.std.proofs.lemmas.Nat.{mul-mod_second}
-use Rattle.df_lists.proofs.ListTotals.{count_most, count_less, count_whole}
+use Rattle.df_lists.proofs.ListTotals.{count_less, count_whole}
 use Rattle.df_lists.proofs.MemberLaws.{In-flat_map, In-flat_map_gives}
-use Rattle.df_lists.proofs.SetLaws.{set_long}
+use Rattle.df_lists.proofs.SetLaws.{set_long, set_picked, In-set}
 
 pub In-set_of : (v : ℕ) (xs : List ℕ) (r : ℕ) → r < v → In xs r → In (set_of v xs) r
 In-set_of v xs r h i = In-filter (has_member xs) (range_with_len 0 v) r (In-points v r h) (has_from xs r i)
@@ -21,8 +21,8 @@ In-set_of_gives v xs r i = let h = In-filter_gives (has_member xs) (range_with_l
 
 pub set_less : (v : ℕ) (a b : List ℕ) (p : ℕ) → IsSet v a → IsSet v b → ((q : ℕ) → In a q → In b q) → In b p → has_member a p ≡ false → length a < length b
 set_less v a b p s t h i out =
-    let below : p < v = In-points_gives v p (In-filter_gives (has_member b) (range_with_len 0 v) p (subst (λ l. In l p) t i)).0 in
-    omega (arith, ap length s, ap length t, count_less (has_member a) (has_member b) (range_with_len 0 v) p (λ q j e. has_from b q (h q (has_gives a q e))) (In-points v p below) out (has_from b p i))
+    let below : p < v = In-set v b p t i in
+    omega (arith, ap length (set_picked v a s), ap length (set_picked v b t), count_less (has_member a) (has_member b) (range_with_len 0 v) p (λ q j e. has_from b q (h q (has_gives a q e))) (In-points v p below) out (has_from b p i))
 
 module _ (e : ℕ) (stated : List ℕ) (pos : 0 < e) where
   abbrev more : ℕ → List ℕ

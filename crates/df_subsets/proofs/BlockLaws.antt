@@ -1,6 +1,6 @@
 -- Blocks as sets of points.
-use Rattle.std.proofs.Common.{◌≡◌, ℕ, suc, ◌+◌, ◌<◌, ◌≤◌, Bool, true, false, cond, not, ◌&&◌, ◌||◌, ◌++◌, List, [], ◌∷◌, length, filter, refl, sym, ap, ap₂, ◌∙◌, subst, inl, inr, ◌⊎◌, arith, eqb, ltb, ⊎_elim, eq-eqb, ne_eqb, lt-ltb, le-ltb}
-use Rattle.std.proofs.lemmas.Bool.{false≢true, and_parts, not-true, ltb-true, cases_eq, cases_lt, cases_order}
+use Rattle.std.proofs.Common.{◌≡◌, ℕ, suc, ◌+◌, ◌<◌, Bool, true, false, cond, not, ◌&&◌, ◌||◌, ◌++◌, List, [], ◌∷◌, length, refl, sym, ap, ◌∙◌, inl, inr, ◌⊎◌, arith, eqb, ltb, ⊎_elim, eq-eqb, ne_eqb, lt-ltb, le-ltb}
+use Rattle.std.proofs.lemmas.Bool.{false≢true, and_parts, not-true, ltb-true, cases_eq, cases_order}
 use Rattle.std.specs.List.{range_with_len}
 use Rattle.df_lists.specs.NumberSets.{has_member, with_member, set_of, IsSet, Rises}
 use Rattle.df_lists.proofs.CountLaws.{has_filter}
@@ -9,7 +9,7 @@ use Rattle.df_lists.proofs.MemberLaws.{In-filter_gives}
 use Rattle.df_lists.proofs.TestLaws.{has_gives}
 use Rattle.df_lists.proofs.SetLaws.{filter_is_set, set_none, set_put}
 use Rattle.df_subsets.specs.Blocks.{are_apart}
-use Rattle.df_lists.proofs.RisingLists.{Rises-wider, Rises-filter, Rises-more, Rises-below, none_below, none_above, has_more}
+use Rattle.df_lists.proofs.RisingLists.{Rises-below, none_below}
 
 pub length_more : (low v p : ℕ) (b : List ℕ) → Rises low v b → length (with_member p b) ≡ cond (has_member b p) (length b) (length b + 1)
 length_more low v p [] r = refl

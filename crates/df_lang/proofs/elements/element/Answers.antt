@@ -1,6 +1,5 @@
-use Rattle.std.proofs.Common.{◌≡◌, ◌<◌, ◌≤◌, ◌*◌, ◌+◌, ◌∷◌, refl, sym, ap, ◌∙◌, arith, length, drop, get_or, option_copied, subst, ℕ}
+use Rattle.std.proofs.Common.{◌≡◌, ◌<◌, ◌≤◌, ◌*◌, sym, ap, ◌∙◌, arith, length, drop, get_or, option_copied}
 use Rattle.df_group.specs.Elements.{order_of}
-use Rattle.df_lang.specs.Values.{element_of}
 use Rattle.df_lang.specs.Pieces.{parts_left}
 use Rattle.df_lang.proofs.ElementParts.{element_from, element_whole_token}
 use Rattle.df_lang.proofs.ElementParts.{element_more, bound_more, element_few, element_past, element_whole, element_bad, element_large, place_small, place_end, value_none}

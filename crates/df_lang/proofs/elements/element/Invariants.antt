@@ -2,7 +2,7 @@ use Rattle.std.proofs.Common.{◌≡◌, ◌≤◌, ◌+◌, ◌*◌, drop, opti
 use Rattle.df_group.specs.Elements.{order_of}
 use Rattle.df_lang.specs.Values.{element_of}
 use Rattle.df_lang.specs.Pieces.{parts_left}
-use Rattle.df_lang.proofs.ElementParts.{element_from, element_whole_token}
+use Rattle.df_lang.proofs.ElementParts.{element_from}
 use Rattle.df_lang.proofs.elements.element.Given as goal
 
 abbrev pub invariant-loop-f : goal.invariant-loop-f

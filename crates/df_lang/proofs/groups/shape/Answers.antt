@@ -1,4 +1,4 @@
-use Rattle.std.proofs.Common.{◌≡◌, sym, ◌∙◌}
+use Rattle.std.proofs.Common.{sym, ◌∙◌}
 use Rattle.df_lang.proofs.Factors.{refusal_none}
 use Rattle.df_lang.proofs.groups.shape.Goals as goal
 

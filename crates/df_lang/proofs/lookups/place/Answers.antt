@@ -1,4 +1,4 @@
-use Rattle.std.proofs.Common.{◌≡◌, refl, sym, ap, ◌∙◌, ℕ, List, position, bytes_eq}
+use Rattle.std.proofs.Common.{sym, ap, ◌∙◌, ℕ, List, position, bytes_eq}
 use Rattle.std.specs.Map.{keys_of}
 use Rattle.arrayvec.specs.ArrayVec.{ArrayVec}
 use Rattle.df_lang.proofs.NamePlaces.{place_too_long, place_of_key}

@@ -1,10 +1,9 @@
 use Rattle.std.proofs.Common.{◌≡◌, ◌<◌, ◌%◌, ◌++◌, ◌∷◌, [], refl, sym, ap, ◌∙◌, arith, length, mod-lt, lit<}
 use Rattle.std.proofs.lemmas.List.{length_push}
 use Rattle.df_lists.specs.NumberSets.{has_member}
-use Rattle.df_io.specs.Lines.{left}
 use Rattle.df_group.specs.Subgroups.{exponent_of}
 use Rattle.df_lang.specs.Values.{mults_from}
-use Rattle.df_lang.proofs.KeptOnce.{AreApart, apart_none, apart_few, apart_more, mults_bad, mults_old, mults_new}
+use Rattle.df_lang.proofs.KeptOnce.{apart_none, apart_few, apart_more, mults_bad, mults_old, mults_new}
 use Rattle.df_lang.proofs.multipliers.multipliers.Goals as goal
 
 pub loop-token-init : goal.loop-token-init

@@ -1,4 +1,4 @@
-use Rattle.std.proofs.Common.{◌≡◌, ◌∷◌, ◌+◌, drop, map, Err, refl, sym, ap, ◌∙◌}
+use Rattle.std.proofs.Common.{◌+◌, drop, map, Err, refl, sym, ap, ◌∙◌}
 use Rattle.df_io.specs.Lines.{lines_of, tokens_of, part}
 use Rattle.df_lang.specs.Sources.{source, from_line}
 use Rattle.df_lang.specs.Drafts.{above}

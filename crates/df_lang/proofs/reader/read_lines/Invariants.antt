@@ -1,4 +1,4 @@
-use Rattle.std.proofs.Common.{◌≡◌, ◌≤◌, ◌+◌, ◌-◌, length, drop, map}
+use Rattle.std.proofs.Common.{◌≡◌, ◌+◌, ◌-◌, length, drop, map}
 use Rattle.df_io.specs.Lines.{lines_of, tokens_of}
 use Rattle.df_lang.specs.Sources.{from_line, source}
 use Rattle.df_lang.specs.DraftRules.{StandsKept}

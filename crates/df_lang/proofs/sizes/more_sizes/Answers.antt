@@ -1,6 +1,5 @@
-use Rattle.std.proofs.Common.{◌≡◌, ◌<◌, ◌≤◌, ◌∷◌, sym, ap, ◌∙◌, arith}
+use Rattle.std.proofs.Common.{sym, ap, ◌∙◌, arith}
 use Rattle.df_io.specs.Lines.{left}
-use Rattle.df_lists.specs.NumberSets.{Rises}
 use Rattle.df_lists.proofs.RisingLists.{Rises-more}
 use Rattle.df_lang.specs.Values.{sizes_from}
 use Rattle.df_lang.proofs.SizesRise.{sizes_step}

@@ -1,4 +1,4 @@
-use Rattle.std.proofs.Common.{◌≡◌, ◌<◌, ◌≤◌, ◌∙◌, ap, arith, length, take, lit<, length-take}
+use Rattle.std.proofs.Common.{◌<◌, ◌∙◌, ap, arith, length, lit<, length-take}
 use Rattle.df_lang.proofs.SizesRise.{rises_few}
 use Rattle.df_lang.proofs.sizes.size_list.Goals as goal
 

@@ -1,4 +1,4 @@
-use Rattle.std.proofs.Common.{◌≡◌, ◌*◌, ◌%◌, ℕ, ◌∙◌, ap, sym, false, true, eqb, arith, subst, eq-eqb, eqb-true, ⊎_elim, refl}
+use Rattle.std.proofs.Common.{◌≡◌, ◌*◌, ◌%◌, ℕ, ◌∙◌, sym, false, true, eqb, arith, subst, eq-eqb, eqb-true, ⊎_elim, refl}
 use Rattle.std.proofs.lemmas.Bool.{or_left, or_right, or_cases, cases_lt, both_ways}
 use Rattle.std.specs.List.{list_any}
 use Rattle.df_lists.specs.Membership.{In}

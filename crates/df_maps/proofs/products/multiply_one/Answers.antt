@@ -1,4 +1,4 @@
-use Rattle.std.proofs.Common.{◌≡◌, ◌<◌, ◌*◌, ◌%◌, ◌||◌, ◌∙◌, ap, ap₂, sym, get_or, eqb, arith, mod-lt}
+use Rattle.std.proofs.Common.{◌≡◌, ◌*◌, ◌%◌, ◌||◌, ◌∙◌, ap, ap₂, sym, get_or, eqb, arith}
 use Rattle.std.proofs.lemmas.List.{take_all}
 use Rattle.std.specs.List.{list_any}
 use Rattle.df_lists.specs.NumberSets.{has_member, with_member}
@@ -13,7 +13,9 @@ loop-m-preserved c = record {
   set = c.insert.ensures.set;
   members = λ j.
       let made = λ (m : _). (m * c.args.residue) % c.args.exponent in
-      ap (λ l. has_member l j) c.insert.ensures.list
+      let place : made (get_or c.args.mults.now c.loop-m.m-index 0) ≡ (c.from.result * c.from-in-loop-m.result) % c.from-in-loop-m-2.result =
+      sym (ap₂ (λ a b. (c.from.result * a) % b) c.from-in-loop-m.ensures c.from-in-loop-m-2.ensures ∙ ap (λ a. (a * c.args.residue) % c.args.exponent) c.from.ensures) in
+      ap (λ l. has_member l j) c.insert.ensures.list ∙ ap (λ k. has_member (with_member k c.loop-m.reached) j) (sym place)
       ∙ member_more c.args.reached.now c.loop-m.reached made c.args.mults.now c.loop-m.m-index j (omega arith) (c.loop-m.invariant.members j);
 }
 

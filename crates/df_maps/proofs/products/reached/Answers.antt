@@ -1,5 +1,4 @@
-use Rattle.std.proofs.Common.{◌≡◌, ◌%◌, ℕ, suc, ◌+◌, ◌∙◌, ap, sym, true, eqb, arith, subst, eq-eqb, eqb-true, ⊎_elim, mod-lt, []}
-use Rattle.std.proofs.lemmas.Bool.{or_right}
+use Rattle.std.proofs.Common.{◌≡◌, ◌%◌, ℕ, suc, ◌+◌, ◌∙◌, ap, sym, true, arith, subst, eq-eqb, eqb-true, ⊎_elim, mod-lt, []}
 use Rattle.df_lists.specs.Membership.{In}
 use Rattle.df_lists.specs.NumberSets.{has_member, with_member}
 use Rattle.df_lists.proofs.SetLaws.{In-set, same_sets, set_longer}
@@ -10,13 +9,13 @@ use Rattle.df_maps.proofs.ProductLaws.{products_one, products_first, one_in, ste
 use Rattle.df_maps.proofs.products.reached.Goals as goal
 
 pub insert-requires : goal.insert-requires
-insert-requires c = let low = mod-lt 1 c.requires.some in omega (arith, low, c.requires.small, c.from.ensures)
+insert-requires c = let low = mod-lt 1 c.requires.some in omega (arith, low, c.requires.small)
 
 pub loop-pass-init : goal.loop-pass-init
 loop-pass-init c =
     let e = c.args.exponent in
     let ms = c.args.mults.now in
-    let now : c.insert.new.reached ≡ with_member (1 % e) [] = c.insert.ensures.list ∙ ap (with_member (1 % e)) c.empty-reached.ensures.list in
+    let now : c.insert.new.self ≡ with_member (1 % e) [] = c.insert.ensures.list ∙ ap (with_member (1 % e)) c.empty-reached.ensures.list in
     record {
       set = c.insert.ensures.set;
       all = λ r i. ap (λ l. has_member l r) now ∙ has_one_more [] (1 % e) r ∙ eq-eqb (1 % e) r (products_first e ms c.requires.some r i);

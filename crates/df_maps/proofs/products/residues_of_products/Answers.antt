@@ -1,4 +1,4 @@
-use Rattle.std.proofs.Common.{◌++◌, length, ap, ◌∙◌, arith, lit<, length-append}
+use Rattle.std.proofs.Common.{length, ap, arith, lit<, length-append}
 use Rattle.df_lists.proofs.RisingLists.{length_fits}
 use Rattle.df_maps.specs.Products.{products}
 use Rattle.df_maps.proofs.ProductLaws.{products_are}

@@ -1,4 +1,4 @@
-use Rattle.std.proofs.Common.{◌≡◌, ◌<◌, ◌≤◌, ◌-◌, ◌^◌, ◌∷◌, ◌++◌, [], length, map, Ok, Some, refl, sym, ap, ◌∙◌, arith, List, ℕ}
+use Rattle.std.proofs.Common.{◌<◌, ◌-◌, ◌^◌, length, map, Ok, sym, ap, ◌∙◌, arith, List}
 use Rattle.df_lang.specs.Drafts.{above}
 use Rattle.df_lang.specs.Problems.{Named}
 use Rattle.df_lang.specs.Stored.{named}

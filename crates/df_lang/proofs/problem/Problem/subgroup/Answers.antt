@@ -1,4 +1,4 @@
-use Rattle.std.proofs.Common.{◌≡◌, [], subst, ap, List, ℕ}
+use Rattle.std.proofs.Common.{◌≡◌, [], subst, ap}
 use Rattle.df_group.specs.Subgroups.{IsSubgroup}
 use Rattle.df_lang.specs.Problems.{Stated}
 use Rattle.df_lang.proofs.NamePlaces.{entry_at}

@@ -1,5 +1,5 @@
 use Rattle.std.proofs.Common.{◌≡◌, ◌∙◌, true, false, sym, length, arith}
-use Rattle.df_maps.specs.FullMaps.{full_maps, point_count}
+use Rattle.df_maps.specs.FullMaps.{full_maps}
 use Rattle.df_maps.proofs.FixingCounts.{fixing_more, fixing_some, size_is}
 use Rattle.df_maps.proofs.maps.Maps.orbit_size.Goals as goal
 use Rattle.df_maps.proofs.maps.Maps.orbit_size.Goals.{then-eq, else-eq}
