@@ -4,7 +4,7 @@ use Rattle.std.specs.List.{All}
 use Rattle.df_lists.specs.NumberSets.{IsSet}
 use Rattle.df_lists.proofs.CountLaws.{list_count, list_count_is, list_total_is, list_count_flat_map}
 use Rattle.df_lists.proofs.ListTotals.{list_total}
-use Rattle.df_group.specs.Elements.{order_of, group_of, IsGroup, IsShape}
+use Rattle.df_group.specs.Elements.{group_of, IsGroup, IsShape}
 use Rattle.df_group.specs.Subgroups.{IsSubgroup}
 use Rattle.df_group.specs.ClosedSets.{IsClosed}
 use Rattle.df_group.proofs.ElementLaws.{is_group}
@@ -13,7 +13,7 @@ use Rattle.df_lang.specs.declared.pieces.Member.{Member}
 use Rattle.df_lang.specs.Problems.{Stated, IsBlock, point_count}
 use Rattle.df_lang.specs.Balance.{holds_both, cover}
 use Rattle.df_family.specs.Translates.{elements}
-use Rattle.df_family.specs.Developments.{translates_under, develop_under, develop}
+use Rattle.df_family.specs.Developments.{translates_under, develop_under}
 use Rattle.df_family.specs.Tables.{occurs, found, stated}
 use Rattle.df_family.specs.Covers.{summand_at, found_at, CoverLaw, PairDivisionLaw}
 use Rattle.df_family.specs.FamilyLaws.{BalanceLaw, DivisionLaw, LengthLaw, PreimageLaw}

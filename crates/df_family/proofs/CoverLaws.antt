@@ -1,9 +1,10 @@
 -- How many translates of a block hold two points.
-use Rattle.std.proofs.Common.{◌≡◌, ℕ, zero, suc, ◌+◌, ◌*◌, ◌/◌, ◌<◌, ◌≤◌, Bool, true, false, cond, eqb, nat_lt, ◌&&◌, List, [], ◌∷◌, filter, map, length, refl, sym, ap, ◌∙◌, inl, inr, arith, lt-ltb, le-ltb, mul_comm, mul-div_cancel, count_by, sum_by}
+use Rattle.std.proofs.Common.{◌≡◌, ℕ, zero, suc, ◌+◌, ◌*◌, ◌/◌, ◌<◌, ◌≤◌, Bool, true, false, cond, eqb, nat_lt, ◌&&◌, List, [], ◌∷◌, filter, length, refl, sym, ap, ◌∙◌, inl, inr, arith, lt-ltb, le-ltb, mul_comm, mul-div_cancel, count_by, sum_by}
 use Rattle.std.specs.List.{range_with_len}
 use Rattle.std.proofs.lemmas.Slice.Eq.{bytes_eq-Decides}
 use Rattle.std.proofs.lemmas.Bool.{cases_lt}
 use Rattle.std.proofs.lemmas.List.{length-map}
+use Rattle.df_lists.proofs.SetLaws.{set_picked}
 use Rattle.df_lists.specs.NumberSets.{has_member, IsSet}
 use Rattle.df_lists.specs.Totals.{total, one}
 use Rattle.df_lists.proofs.TotalLaws.{total_same, total_turn, total_at, total_zero}
@@ -17,7 +18,7 @@ use Rattle.df_lang.specs.declared.pieces.Kind.{Kind}
 use Rattle.df_lang.specs.declared.pieces.Kind.TheVariants as kinds
 use Rattle.df_lang.specs.Problems.{Stated, point_count}
 use Rattle.df_lang.specs.Balance.{holds_both}
-use Rattle.df_family.specs.Translates.{translate, same_translate, stabilizer_under}
+use Rattle.df_family.specs.Translates.{translate, stabilizer_under}
 use Rattle.df_family.specs.Developments.{is_listed, translates_under}
 use Rattle.df_family.specs.Tables.{finite_points}
 use Rattle.df_family.specs.Covers.{coset_points, occurs_at, summand_at}
@@ -53,7 +54,7 @@ module _ (s : Stated) (is : IsGroup (group_of s.group)) (shifts : List ℕ) (clo
   list_total_finite F =
       let n = order_of s.group in
       let whole : n + s.fixed ≡ s.fixed + n = omega arith in
-      list_total_filter (λ x. nat_lt x n) F block ∙ ap (list_total (λ x. cond (nat_lt x n) (F x) 0)) set ∙ list_total_filter (has_member block) (λ x. cond (nat_lt x n) (F x) 0) (range_with_len 0 (point_count s))
+      list_total_filter (λ x. nat_lt x n) F block ∙ ap (list_total (λ x. cond (nat_lt x n) (F x) 0)) (set_picked (point_count s) block set) ∙ list_total_filter (has_member block) (λ x. cond (nat_lt x n) (F x) 0) (range_with_len 0 (point_count s))
       ∙ list_total_range (λ x. cond (has_member block x) (cond (nat_lt x n) (F x) 0) 0) (point_count s)
       ∙ ap (total (λ x. cond (has_member block x) (cond (nat_lt x n) (F x) 0) 0)) whole
       ∙ total_front (has_member block) F n s.fixed

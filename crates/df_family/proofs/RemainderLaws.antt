@@ -1,11 +1,11 @@
 -- What remains of a development, one block on.
-use Rattle.std.proofs.Common.{◌≡◌, ℕ, zero, suc, ◌+◌, ◌-◌, ◌<◌, Bool, true, false, cond, not, ◌&&◌, ◌||◌, nat_lt, List, [], ◌∷◌, ◌++◌, map, filter, find, length, get_or, All, None, Some, refl, sym, ap, ◌∙◌, inl, inr, arith}
+use Rattle.std.proofs.Common.{◌≡◌, ℕ, zero, suc, ◌+◌, ◌-◌, ◌<◌, Bool, true, false, cond, not, ◌&&◌, nat_lt, List, [], ◌∷◌, ◌++◌, map, filter, find, length, get_or, All, None, Some, refl, sym, ap, ◌∙◌, inl, inr, arith}
 use Rattle.std.specs.List.{range_with_len, flat_map, list_any}
 use Rattle.df_lists.specs.Membership.{In}
 use Rattle.df_lists.specs.NumberSets.{has_member, IsSet}
 use Rattle.df_lists.specs.LeastMembers.{any_below}
 use Rattle.df_lists.proofs.RisingLists.{point_below}
-use Rattle.df_lists.proofs.MemberLaws.{In-filter_gives, In-range_gives}
+use Rattle.df_lists.proofs.MemberLaws.{In-filter_gives}
 use Rattle.df_group.specs.Elements.{order_of, group_of, IsGroup, minus}
 use Rattle.df_group.specs.ClosedSets.{IsClosed}
 use Rattle.df_lang.specs.declared.pieces.Kind.{Kind}

@@ -1,5 +1,5 @@
 -- The row of two points, and how often a block has it.
-use Rattle.std.proofs.Common.{◌≡◌, ℕ, ◌+◌, ◌-◌, ◌/◌, ◌<◌, ◌≤◌, Bool, true, cond, eqb, nat_lt, List, [], ◌∷◌, filter, length, count_by, sum_by, refl, sym, ap, ◌∙◌, inl, inr, arith, lt-ltb, le-ltb}
+use Rattle.std.proofs.Common.{◌≡◌, ℕ, ◌+◌, ◌-◌, ◌/◌, ◌<◌, ◌≤◌, cond, eqb, nat_lt, List, [], ◌∷◌, length, count_by, sum_by, refl, sym, ap, ◌∙◌, inl, inr, arith, lt-ltb, le-ltb}
 use Rattle.std.proofs.lemmas.Bool.{cases_lt}
 use Rattle.std.proofs.lemmas.List.FromFn.{length-range_with_len}
 use Rattle.df_lists.specs.NumberSets.{has_member}
@@ -10,7 +10,7 @@ use Rattle.df_group.specs.Elements.{order_of, group_of, IsGroup, minus}
 use Rattle.df_lang.specs.declared.pieces.Kind.{Kind}
 use Rattle.df_lang.specs.declared.pieces.Kind.TheVariants as kinds
 use Rattle.df_lang.specs.declared.pieces.Member.{Member}
-use Rattle.df_lang.specs.Problems.{Stated, point_count}
+use Rattle.df_lang.specs.Problems.{Stated}
 use Rattle.df_lang.specs.Balance.{holds_both}
 use Rattle.df_family.specs.declared.table.Row.{Row}
 use Rattle.df_family.specs.declared.table.Row.TheVariants.{Diff, WithFixed, TwoFixed}

@@ -1,8 +1,8 @@
 -- Sets of numbers that grow by one number.
-use Rattle.std.proofs.Common.{◌≡◌, ◌≢◌, ℕ, zero, suc, ◌+◌, ◌<◌, ◌≤◌, Bool, true, false, cond, ◌||◌, eqb, ltb, List, [], ◌∷◌, ◌++◌, map, filter, take, get_or, length, refl, sym, ap, ◌∙◌, arith, tests, append-nil, eq-eqb, ne_eqb}
+use Rattle.std.proofs.Common.{◌≡◌, ℕ, zero, suc, ◌+◌, ◌<◌, ◌≤◌, Bool, true, false, cond, eqb, ltb, List, [], ◌∷◌, ◌++◌, map, filter, take, get_or, length, refl, sym, ap, ◌∙◌, arith, tests, append-nil}
 use Rattle.std.specs.List.{range_with_len}
 use Rattle.std.proofs.lemmas.List.{map_more}
-use Rattle.df_lists.specs.NumberSets.{has_member, set_of, with_member}
+use Rattle.df_lists.specs.NumberSets.{set_of, with_member}
 use Rattle.df_lists.proofs.RangeLaws.{filter_more}
 use Rattle.df_lists.proofs.SetLaws.{set_more}
 

@@ -1,5 +1,5 @@
 -- The elements of a subgroup as shifts: sums over them, and those that give the same translate.
-use Rattle.std.proofs.Common.{◌≡◌, ℕ, zero, suc, ◌+◌, ◌*◌, ◌<◌, ◌≤◌, Bool, true, false, cond, eqb, not, ◌&&◌, ◌||◌, nat_lt, count_by, List, [], ◌∷◌, filter, length, refl, sym, ap, ◌∙◌, inl, inr, arith, subst, lt-ltb, le-ltb, eq-eqb, ne_eqb}
+use Rattle.std.proofs.Common.{◌≡◌, ℕ, zero, suc, ◌*◌, ◌<◌, ◌≤◌, Bool, true, false, cond, eqb, not, ◌&&◌, ◌||◌, nat_lt, List, [], ◌∷◌, filter, length, refl, sym, ap, ◌∙◌, inl, inr, arith, subst, lt-ltb, le-ltb, eq-eqb, ne_eqb}
 use Rattle.std.specs.List.{range_with_len, list_any}
 use Rattle.std.proofs.lemmas.Bool.{cases_lt, eqb-true}
 use Rattle.std.proofs.lemmas.Map.Views.{any-filter_same}
@@ -10,7 +10,7 @@ use Rattle.df_lists.specs.Totals.{total, one}
 use Rattle.df_lists.specs.LeastMembers.{any_below, is_least, IsSameness}
 use Rattle.df_lists.proofs.TotalLaws.{total_same, total_turn}
 use Rattle.df_lists.proofs.LeastLaws.{leasts}
-use Rattle.df_lists.proofs.CountLaws.{list_count, list_count_is, list_total_filter, list_total_range}
+use Rattle.df_lists.proofs.CountLaws.{list_count_is, list_total_filter, list_total_range}
 use Rattle.df_lists.proofs.ListTotals.{list_total}
 use Rattle.df_lists.proofs.TestLaws.{same_tests}
 use Rattle.df_group.specs.Elements.{order_of, group_of, IsGroup, minus}

@@ -1,16 +1,13 @@
 -- The first wrong row, and what a verdict tells.
-use Rattle.std.proofs.Common.{◌≡◌, ◌↔◌, ℕ, zero, suc, ◌<◌, ◌≤◌, Bool, true, false, not, cond, nat_lt, eqb, List, [], ◌∷◌, find, position, slice_get, length, get_or, Option, None, Some, refl, sym, ap, ◌∙◌, inl, inr, arith, ltb-true, ltb-false, eqb-true, eq-eqb, subst}
+use Rattle.std.proofs.Common.{◌≡◌, ◌↔◌, ℕ, zero, suc, ◌<◌, ◌≤◌, Bool, true, false, not, cond, nat_lt, eqb, List, [], ◌∷◌, find, position, slice_get, length, get_or, Option, None, Some, refl, sym, ap, ◌∙◌, inl, inr, arith, ltb-true, ltb-false, eqb-true, eq-eqb}
 use Rattle.std.specs.List.{position_or_len}
 use Rattle.std.proofs.lemmas.Bool.{both_ways}
 use Rattle.std.proofs.lemmas.List.Folds.{find_at}
 use Rattle.std.proofs.lemmas.Option.{slice_get-get_or}
 use Rattle.df_lists.specs.Membership.{In}
 use Rattle.df_lists.proofs.MemberLaws.{In-map, In-map_gives}
-use Rattle.df_lang.specs.Problems.{Stated, IsStated}
-use Rattle.df_lang.specs.Balance.{IsBalanced}
-use Rattle.df_family.specs.Developments.{develop}
+use Rattle.df_lang.specs.Problems.{Stated}
 use Rattle.df_family.specs.declared.table.Entry.{Entry}
-use Rattle.df_family.specs.declared.table.Row.TheVariants.{Diff}
 use Rattle.df_family.specs.Tables.{rows, found, stated, entry, table, is_wrong, IsAsStated}
 use Rattle.df_family.specs.Verdicts.{verdict_at, verdict_on, is_accepted}
 use Rattle.df_family.specs.FamilyLaws.{VerdictLaw}

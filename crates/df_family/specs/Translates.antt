@@ -1,5 +1,5 @@
 -- Translates of blocks by the elements of the group.
-use Rattle.std.specs.Prelude.{ℕ, Bool, List, map, count_by, if◌then◌else◌}
+use Rattle.std.specs.Prelude.{ℕ, Bool, List, count_by}
 use Rattle.std.specs.List.{range_with_len}
 use Rattle.df_group.specs.Elements.{order_of, group_of, shifted}
 use Rattle.df_acting.specs.Images.{image}

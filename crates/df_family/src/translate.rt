@@ -1,10 +1,10 @@
 // Translates of blocks, and the translations that fix a block.
 ghost use Rattle.std.specs.Prelude.{◌≡◌, ◌≤◌, ◌<◌, ◌&&◌, All, length, filter};
 ghost use Rattle.df_lists.specs.NumberSets.{has_member};
-ghost use Rattle.df_group.specs.Elements.{order_of, shifted};
+ghost use Rattle.df_group.specs.Elements.{order_of, group_of, shifted as shifted_point};
 ghost use Rattle.df_group.specs.Subgroups.{IsSubgroup};
 ghost use Rattle.df_lang.specs.Problems.{point_count};
-ghost use Rattle.df_family.specs.Translates.{shifted as shifted_point, translate, fixes, stabilizer as stabilizer_of};
+ghost use Rattle.df_family.specs.Translates.{translate, fixes, stabilizer as stabilizer_of};
 
 use crate::problem_parts::{order, sum};
 use df_group::{Elem, Subgroup};
@@ -63,7 +63,7 @@ pub fn translated(problem: &Problem, block: &Block, g: Elem) -> Block
 fn shifted(problem: &Problem, g: Elem, p: Point) -> Point
     requires g { g < order_of problem.now.group }
     requires p { p < point_count problem.now }
-    ensures point { result ≡ shifted_point problem.now g p }
+    ensures point { result ≡ shifted_point (group_of problem.now.group) g p }
     ensures below { result < point_count problem.now }
     ensures few { point_count problem.now ≤ 128 }
 {

@@ -70,5 +70,5 @@ are_few sets all some s is = record {
   orbit_high = λ b i. (block_sized all some s is b (orbit_block s b i)).high;
   blocks = sizes_count all (point_count s) 0 17 s.sizes is.sizes_rise;
   entry = λ b pair. count_whole (λ c. in_one_orbit s c b && contains c pair) (all_blocks s);
-  orbit = λ b. count_whole (λ c. in_one_orbit s c b) (all_blocks s);
+  size = λ b. count_whole (λ c. in_one_orbit s c b) (all_blocks s);
 }

@@ -2,6 +2,7 @@
 use Rattle.std.proofs.Common.{◌≡◌, ℕ, suc, zero, Bool, true, false, cond, ◌&&◌, ◌++◌, map, filter, List, [], ◌∷◌, refl, sym, ap, ap₂, ◌∙◌}
 use Rattle.std.proofs.lemmas.List.Elements.{filter-append}
 use Rattle.std.proofs.Math.Bool.{and_comm}
+use Rattle.df_lists.proofs.SetLaws.{set_picked}
 use Rattle.df_lists.specs.Membership.{count}
 use Rattle.df_lists.specs.NumberSets.{has_member, IsSet}
 use Rattle.df_lists.proofs.ListTotals.{count_agree}
@@ -27,4 +28,4 @@ pub held_count : (v k : ℕ) (t : List ℕ → Bool) (b : List ℕ) → IsSet v 
 held_count v k t b set =
     count_agree (λ p. t p && contains b p) (λ p. contains b p && t p) (subsets v k) (λ p i. and_comm (t p) (contains b p))
     ∙ sym (count-filter (contains b) t (subsets v k))
-    ∙ ap (count t) (choose_held b (points v) k ∙ ap (λ l. choose l k) (sym set))
+    ∙ ap (count t) (choose_held b (points v) k ∙ ap (λ l. choose l k) (sym (set_picked v b set)))

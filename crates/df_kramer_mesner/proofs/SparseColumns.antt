@@ -3,6 +3,7 @@ use Rattle.std.proofs.Common.{◌≡◌, ℕ, suc, ◌+◌, ◌*◌, ◌<◌, �
 use Rattle.std.specs.Prelude.{nat_lt}
 use Rattle.std.specs.List.{list_any}
 use Rattle.std.proofs.lemmas.Bool.{ltb-true, cases_lt}
+use Rattle.df_lists.proofs.SetLaws.{set_picked}
 use Rattle.df_lists.specs.Membership.{In, count}
 use Rattle.df_lists.specs.NumberSets.{IsSet}
 use Rattle.df_lists.proofs.ListTotals.{count_agree, count_most}
@@ -56,7 +57,7 @@ module _ (sets : AreSets) (ordered : AreOrdered) (all : SubsetsAreAll) (some : C
 
     within_set : (p : List ℕ) → In (choose b 2) p → IsSet (point_count s) p
     within_set p j =
-        let held = choose_held b (points (point_count s)) 2 ∙ ap (λ l. choose l 2) (sym set) in
+        let held = choose_held b (points (point_count s)) 2 ∙ ap (λ l. choose l 2) (sym (set_picked (point_count s) b set)) in
         (pairs_spread s A).inside p (In-filter_gives (contains b) (all_pairs s) p (subst (λ l. In l p) (sym held) j)).0
 
     -- where the entry is positive, the block has a pair of the row's orbit

@@ -64,7 +64,7 @@ pub record AreFew (s : Stated) : Type 0 where
   pub orbit_high : (b : List ℕ) → In (orbits_of s) b → length b ≤ 16
   pub blocks : length (all_blocks s) ≡ sum_by (binomial (point_count s)) s.sizes
   pub entry : (b pair : List ℕ) → orbit_cover s b pair ≤ length (all_blocks s)
-  pub orbit : (b : List ℕ) → orbit_size s b ≤ length (all_blocks s)
+  pub size : (b : List ℕ) → orbit_size s b ≤ length (all_blocks s)
 
 abbrev pub NumbersAreFew : Type 0
 NumbersAreFew = (s : Stated) → IsStated s → AreFew s

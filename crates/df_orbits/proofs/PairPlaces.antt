@@ -3,6 +3,7 @@ use Rattle.std.proofs.Common.{◌≡◌, ℕ, ◌+◌, ◌*◌, ◌<◌, Bool, t
 use Rattle.std.proofs.lemmas.Bool.{cases_eq, or_left, or_right, or_cases, and_parts, and_from}
 use Rattle.std.proofs.lemmas.Nat.{mul-add-lt, same_from_place}
 use Rattle.std.specs.List.{range_with_len}
+use Rattle.df_lists.proofs.SetLaws.{set_picked}
 use Rattle.df_lists.specs.Membership.{In}
 use Rattle.df_lists.specs.NumberSets.{has_member, set_of}
 use Rattle.df_lists.proofs.MemberLaws.{In-filter_gives}

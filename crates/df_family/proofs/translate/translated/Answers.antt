@@ -2,7 +2,8 @@ use Rattle.std.proofs.Common.{◌≡◌, ◌<◌, length, get_or, map, take, ap,
 use Rattle.df_group.specs.Elements.{shifted, group_of}
 use Rattle.df_lists.specs.NumberSets.{set_of, with_member}
 use Rattle.df_lang.specs.Problems.{point_count}
-use Rattle.df_family.proofs.SetLaws.{set_none, image_more}
+use Rattle.df_lists.proofs.SetLaws.{set_none}
+use Rattle.df_family.proofs.SetLaws.{image_more}
 use Rattle.df_family.proofs.translate.translated.Goals as goal
 
 pub loop-p-init : goal.loop-p-init

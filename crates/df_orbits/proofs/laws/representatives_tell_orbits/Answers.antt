@@ -1,4 +1,3 @@
-use Rattle.df_maps.specs.FullMaps.{point_count}
 use Rattle.df_orbits.proofs.OrbitNumbers.{members_sorted, member_own, least_in, member_alone}
 use Rattle.df_orbits.proofs.laws.representatives_tell_orbits.Goals as goal
 

@@ -1,4 +1,4 @@
-use Rattle.std.proofs.Common.{arith, sym}
+use Rattle.std.proofs.Common.{arith}
 use Rattle.df_group.proofs.ElementLaws.{is_group}
 use Rattle.df_group.proofs.SubgroupLaws.{subgroup_closed}
 use Rattle.df_family.proofs.DevelopedBlocks.{developed_blocks, developed_sizes}

@@ -1,4 +1,4 @@
-use Rattle.std.proofs.Common.{◌≡◌, ◌+◌, ◌*◌, ◌/◌, ℕ, List, filter, length, map, ap, sym, ◌∙◌, arith, mul_comm, mul-div_cancel, true, refl}
+use Rattle.std.proofs.Common.{◌≡◌, ◌+◌, ◌*◌, ◌/◌, ℕ, List, length, map, ap, sym, ◌∙◌, arith, mul_comm, mul-div_cancel, true, refl}
 use Rattle.std.proofs.lemmas.List.FromFn.{length-range_with_len}
 use Rattle.std.proofs.lemmas.List.{length-map}
 use Rattle.df_group.specs.Elements.{order_of}

@@ -17,7 +17,7 @@ pub returns-clause-few : goal.returns-clause-few
 returns-clause-few c =
     let f = c.numbers_are_few.ensures c.args.self.now (are c).stated in
     let k = are c in
-    omega (arith, is c, f.orbit (orbit_at c.args.self.now c.args.orbit), k.few)
+    omega (arith, is c, f.size (orbit_at c.args.self.now c.args.orbit), k.few)
 
 pub size-requires : goal.size-requires
 size-requires c = omega (arith, c.requires, blocks_long c.args.self.now (shown c.self.view_is c.self.invariant))

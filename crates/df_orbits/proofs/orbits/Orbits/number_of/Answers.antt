@@ -3,7 +3,6 @@ use Rattle.std.proofs.lemmas.List.{length-map}
 use Rattle.std.proofs.lemmas.Option.{get_or_from_slice_get}
 use Rattle.df_subsets.specs.Blocks.{before}
 use Rattle.df_subsets.proofs.BlockOrders.{before_is}
-use Rattle.df_maps.specs.FullMaps.{point_count}
 use Rattle.df_orbits.specs.Orbits.{listed_representatives, representative_of}
 use Rattle.df_orbits.proofs.OrbitLists.{shown, member_at}
 use Rattle.df_orbits.proofs.OrbitNumbers.{search_ends, listed_sorted, half_below, half_above, place_is}
