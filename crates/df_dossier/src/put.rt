@@ -6,8 +6,11 @@ ghost use Rattle.df_io.specs.Joined.{spaced};
 ghost use Rattle.df_dossier.specs.Entries.{entry_text, row_tokens};
 ghost use Rattle.df_dossier.specs.Tokens.{after_spaces};
 ghost use Rattle.df_dossier.specs.Paths.{end_tokens};
+ghost use Rattle.df_dossier.specs.Designs.{block_piece};
 
 use df_io::{LineBuf, put_number, put_signed, put_text};
+use df_lang::{Problem, put_block};
+use df_subsets::Block;
 use df_walk::{CutRow, Entry};
 
 /// Appends the line of an entry. The buffer has room for it; `entry_text_is_short` says how much is enough.
@@ -81,6 +84,22 @@ pub fn put_design_start(buf: &mut LineBuf)
     ensures len { array_vec_len buf.new ≡ array_vec_len buf.old + 6 }
 {
     put_text(buf, b"design");
+}
+
+/// Appends the block of a design line at this place, from 0: behind a space, and from the second one on behind a `;`
+/// between spaces. The buffer has room for it; `block_text_is_short` of df_lang says how much is enough.
+pub fn put_design_block(buf: &mut LineBuf, problem: &Problem, block: &Block, place: u64)
+    requires { array_vec_len buf.old + length (block_piece problem.now.group block.now place) ≤ 1024 }
+    ensures text { buf.new.items ≡ buf.old.items ++ block_piece problem.now.group block.now place }
+    ensures len { array_vec_len buf.new
+        ≡ array_vec_len buf.old + length (block_piece problem.now.group block.now place) }
+{
+    if place == 0 {
+        put_text(buf, b" ");
+    } else {
+        put_text(buf, b" ; ");
+    }
+    put_block(buf, problem, block);
 }
 
 /// Appends a space and the length of a path, with which it begins behind `from` or `next`. The buffer has room for
