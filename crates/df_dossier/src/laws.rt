@@ -1,0 +1,14 @@
+// What is written is read back: laws, each the contract of a function that does nothing.
+ghost use Rattle.df_dossier.specs.RoundTrips.{EntriesReadBack, PathsReadBack};
+
+/// `read_entry` gives back each entry that `put_entry` writes: by either rules a branch, a row over or under and a
+/// settled one, and by the divisor's rules residues and cuts too.
+#[tactic(auto, using(crate::proofs::EntriesBack::entries_back))]
+pub fn entries_are_read_back()
+    ensures { EntriesReadBack }
+{}
+
+/// `read_path` gives back each path, from its `from` line and from its `end` line.
+pub fn paths_are_read_back()
+    ensures { PathsReadBack }
+{}

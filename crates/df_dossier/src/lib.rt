@@ -1,0 +1,27 @@
+//! Dossiers, which a search writes and others read: their lines, each both ways.
+//! It stands on df_io for lines, tokens and numbers, on df_walk for entries and paths as words, on df_system for the type
+//! of paths, and on df_lang for the texts of blocks.
+//! The crates above write lines by the `put_` calls and read them by `read_entry` and `read_path`; clauses cite
+//! `specs/Entries`, `specs/Paths` and `specs/Designs`. That what is written is read back are the laws `.._read_back`.
+#![tactic(auto)]
+
+mod entries;
+mod laws;
+mod numbers;
+mod paths;
+mod put;
+
+pub use df_walk::{CutRow, Entry, Rules};
+pub use entries::{MOST_ROWS, MOST_WEIGHT, read_entry};
+pub use laws::{entries_are_read_back, paths_are_read_back};
+pub use numbers::{MOST_COUNT, MOST_NUMBER};
+pub use paths::{PathRead, read_path};
+pub use put::{
+    put_design_block, put_design_start, put_end, put_entry, put_path_column, put_path_start,
+};
+
+#[cfg(test)]
+mod tests;
+
+/// Out of memory.
+pub type OutOfMemory = std::alloc::AllocError;

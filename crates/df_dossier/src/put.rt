@@ -1,0 +1,149 @@
+// The lines of a dossier, or their pieces, written to a buffer without line feeds.
+ghost use Rattle.std.specs.Prelude.{◌≡◌, ◌≤◌, ◌+◌, ◌++◌, ◌∷◌, length, length as length_of, codes, decimal};
+ghost use Rattle.std.specs.List.{flat_map};
+ghost use Rattle.arrayvec.specs.ArrayVec.{array_vec_len};
+ghost use Rattle.df_io.specs.Joined.{spaced};
+ghost use Rattle.df_dossier.specs.Entries.{entry_text, row_tokens};
+ghost use Rattle.df_dossier.specs.Tokens.{after_spaces};
+ghost use Rattle.df_dossier.specs.Paths.{end_tokens};
+ghost use Rattle.df_dossier.specs.Designs.{block_piece};
+
+use df_io::{LineBuf, put_number, put_signed, put_text};
+use df_lang::{Problem, put_block};
+use df_subsets::Block;
+use df_walk::{CutRow, Entry};
+
+/// Appends the line of an entry. The buffer has room for it; `entry_text_is_short` says how much is enough.
+pub fn put_entry(buf: &mut LineBuf, entry: Entry)
+    requires { array_vec_len buf.old + length (entry_text entry) ≤ 1024 }
+    ensures text { buf.new.items ≡ buf.old.items ++ entry_text entry }
+    ensures len { array_vec_len buf.new ≡ array_vec_len buf.old + length (entry_text entry) }
+{
+    match entry {
+        Entry::Branch(column) => put_one(buf, b"branch ", column),
+        Entry::Over(row) => put_one(buf, b"over ", row),
+        Entry::Under(row) => put_one(buf, b"under ", row),
+        Entry::Settled => put_text(buf, b"settled"),
+        Entry::Residue { row, divisor } => {
+            put_one(buf, b"residue ", row);
+            put_after(buf, divisor);
+        }
+        Entry::Cut(rows) => {
+            put_text(buf, b"cut");
+            put_rows(buf, &rows);
+        }
+    }
+}
+
+// Appends a word with its space, and a number.
+fn put_one(buf: &mut LineBuf, word: &[u8], number: u32)
+    requires { array_vec_len buf.old + length (word.now ++ decimal number) ≤ 1024 }
+    ensures text { buf.new.items ≡ buf.old.items ++ (word.now ++ decimal number) }
+    ensures len { array_vec_len buf.new ≡ array_vec_len buf.old + length (word.now ++ decimal number) }
+{
+    put_text(buf, word);
+    put_number(buf, u64::from(number));
+}
+
+// Appends a space and a number.
+fn put_after(buf: &mut LineBuf, number: u32)
+    requires { array_vec_len buf.old + length (32 ∷ decimal number) ≤ 1024 }
+    ensures text { buf.new.items ≡ buf.old.items ++ 32 ∷ decimal number }
+    ensures len { array_vec_len buf.new ≡ array_vec_len buf.old + length (32 ∷ decimal number) }
+{
+    buf.push(b' ');
+    put_number(buf, u64::from(number));
+}
+
+// Appends a weighted row, its weight and its number each after a space.
+fn put_row(buf: &mut LineBuf, row: CutRow)
+    requires { array_vec_len buf.old + length (after_spaces (row_tokens row)) ≤ 1024 }
+    ensures text { buf.new.items ≡ buf.old.items ++ after_spaces (row_tokens row) }
+    ensures len { array_vec_len buf.new ≡ array_vec_len buf.old + length (after_spaces (row_tokens row)) }
+{
+    buf.push(b' ');
+    put_signed(buf, i64::from(row.weight));
+    put_after(buf, row.row);
+}
+
+// Appends weighted rows.
+fn put_rows(buf: &mut LineBuf, rows: &[CutRow])
+    requires { array_vec_len buf.old + length (flat_map (λ w. after_spaces (row_tokens w)) rows.now) ≤ 1024 }
+    ensures text { buf.new.items ≡ buf.old.items ++ flat_map (λ w. after_spaces (row_tokens w)) rows.now }
+    ensures len { array_vec_len buf.new ≡ array_vec_len buf.old + length (flat_map (λ w. after_spaces (row_tokens w)) rows.now) }
+{
+    for row in rows {
+        put_row(buf, *row);
+    }
+}
+
+/// Appends `design`, with which a design line begins. The buffer has room for it.
+pub fn put_design_start(buf: &mut LineBuf)
+    requires { array_vec_len buf.old + 6 ≤ 1024 }
+    ensures text { buf.new.items ≡ buf.old.items ++ codes "design" }
+    ensures len { array_vec_len buf.new ≡ array_vec_len buf.old + 6 }
+{
+    put_text(buf, b"design");
+}
+
+/// Appends the block of a design line at this place, from 0: behind a space, and from the second one on behind a `;`
+/// between spaces. The buffer has room for it; `block_text_is_short` of df_lang says how much is enough.
+pub fn put_design_block(buf: &mut LineBuf, problem: &Problem, block: &Block, place: u64)
+    requires { array_vec_len buf.old + length (block_piece problem.now.group block.now place) ≤ 1024 }
+    ensures text { buf.new.items ≡ buf.old.items ++ block_piece problem.now.group block.now place }
+    ensures len { array_vec_len buf.new
+        ≡ array_vec_len buf.old + length (block_piece problem.now.group block.now place) }
+{
+    if place == 0 {
+        put_text(buf, b" ");
+    } else {
+        put_text(buf, b" ; ");
+    }
+    put_block(buf, problem, block);
+}
+
+/// Appends a space and the length of a path, with which it begins behind `from` or `next`. The buffer has room for
+/// them.
+pub fn put_path_start(buf: &mut LineBuf, length: u32)
+    requires { array_vec_len buf.old + length_of (32 ∷ decimal length) ≤ 1024 }
+    ensures text { buf.new.items ≡ buf.old.items ++ 32 ∷ decimal length }
+    ensures len { array_vec_len buf.new ≡ array_vec_len buf.old + length_of (32 ∷ decimal length) }
+{
+    put_after(buf, length);
+}
+
+/// Appends a space and a yes column of a path. The buffer has room for them.
+pub fn put_path_column(buf: &mut LineBuf, column: u32)
+    requires { array_vec_len buf.old + length (32 ∷ decimal column) ≤ 1024 }
+    ensures text { buf.new.items ≡ buf.old.items ++ 32 ∷ decimal column }
+    ensures len { array_vec_len buf.new ≡ array_vec_len buf.old + length (32 ∷ decimal column) }
+{
+    put_after(buf, column);
+}
+
+/// Appends an end line: of a run that finished the whole line, and else the part up to `next`, behind which the path
+/// stands. The buffer has room for it.
+pub fn put_end(buf: &mut LineBuf, finished: bool, designs: u64, nodes: u64)
+    requires { array_vec_len buf.old + length (spaced (end_tokens finished designs nodes)) ≤ 1024 }
+    ensures text { buf.new.items ≡ buf.old.items ++ spaced (end_tokens finished designs nodes) }
+    ensures len { array_vec_len buf.new ≡ array_vec_len buf.old + length (spaced (end_tokens finished designs nodes)) }
+{
+    if finished {
+        put_counts(buf, b"end finished designs ", designs, nodes);
+    } else {
+        put_counts(buf, b"end spent designs ", designs, nodes);
+        put_text(buf, b" next");
+    }
+}
+
+// Appends a text and the counts.
+fn put_counts(buf: &mut LineBuf, text: &[u8], designs: u64, nodes: u64)
+    requires { array_vec_len buf.old + length (text.now ++ decimal designs ++ codes " nodes " ++ decimal nodes) ≤ 1024 }
+    ensures text { buf.new.items ≡ buf.old.items ++ (text.now ++ decimal designs ++ codes " nodes " ++ decimal nodes) }
+    ensures len { array_vec_len buf.new ≡ array_vec_len buf.old + length (text.now ++ decimal designs ++ codes " nodes " ++ decimal nodes) }
+{
+    put_text(buf, text);
+    put_number(buf, designs);
+    put_text(buf, b" nodes ");
+    put_number(buf, nodes);
+}

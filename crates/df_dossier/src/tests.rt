@@ -1,0 +1,175 @@
+// What no clause says: that memory suffices; and lines with what they say, worked out by hand.
+use super::*;
+use df_io::LineBuf;
+use std::test::Fail;
+
+fn is_entry(line: &[u8], rules: Rules) -> bool {
+    read_entry(line, rules).is_some()
+}
+
+// The line is a cut with these rows.
+fn is_cut(line: &[u8], rows: &[(i16, u32)]) -> bool {
+    let Some(Entry::Cut(read)) = read_entry(line, Rules::Divisor) else {
+        return false;
+    };
+    if read.len() != rows.len() {
+        return false;
+    }
+    for (row, stated) in read.iter().zip(rows) {
+        if row.weight != stated.0 || row.row != stated.1 {
+            return false;
+        }
+    }
+    true
+}
+
+#[test]
+fn entries_are_read(rt: HostRuntime) {
+    for rules in [Rules::Plain, Rules::Divisor] {
+        assert!(rt; matches!(read_entry(b"branch 0", rules), Some(Entry::Branch(0))));
+        assert!(rt;
+            matches!(
+                read_entry(b"over 4294967295", rules),
+                Some(Entry::Over(u32::MAX))
+            )
+        );
+        assert!(rt;
+            matches!(
+                read_entry(b" under\t007 # 8\r", rules),
+                Some(Entry::Under(7))
+            )
+        );
+        assert!(rt; matches!(read_entry(b"settled\r", rules), Some(Entry::Settled)));
+        for line in [
+            b"".as_slice(),
+            b"# branch 1",
+            b"Branch 1",
+            b"branch",
+            b"branch 1 2",
+            b"branch -1",
+            b"branch 1x",
+            b"over 4294967296",
+            b"under 99999999999999999999",
+            b"settled 0",
+            b"design",
+        ] {
+            assert!(rt; !is_entry(line, rules));
+        }
+    }
+}
+
+#[test]
+fn residues_and_cuts_are_read(rt: HostRuntime) {
+    let read = read_entry(b"residue 1 2", Rules::Divisor);
+    assert!(rt; matches!(read, Some(Entry::Residue { row: 1, divisor: 2 })));
+    assert!(rt; is_cut(b"cut 2 0 -1 2", &[(2, 0), (-1, 2)]));
+    assert!(rt;
+        is_cut(
+            b"cut -1000 3 0999 4294967295",
+            &[(-1000, 3), (999, u32::MAX)]
+        )
+    );
+    let most =
+        b"cut 1 0 1 1 1 2 1 3 1 4 1 5 1 6 1 7 1 8 1 9 1 10 1 11 1 12 1 13 1 14 1 15".as_slice();
+    assert!(rt; is_entry(most, Rules::Divisor));
+    for line in [b"residue 1 2".as_slice(), b"cut 1 0", most] {
+        assert!(rt; !is_entry(line, Rules::Plain));
+    }
+    for line in [
+        b"residue 1 1".as_slice(),
+        b"residue 1",
+        b"residue 1 2 3",
+        b"residue 1 4294967296",
+        b"cut",
+        b"cut 1",
+        b"cut 0 1",
+        b"cut -0 1",
+        b"cut 1001 1",
+        b"cut -1001 1",
+        b"cut - 1",
+        b"cut --1 1",
+        b"cut 1 2 1 2",
+        b"cut 1 2 1 1",
+        b"cut 1 4294967296",
+        b"cut 1 0 1 1 1 2 1 3 1 4 1 5 1 6 1 7 1 8 1 9 1 10 1 11 1 12 1 13 1 14 1 15 1 16",
+    ] {
+        assert!(rt; !is_entry(line, Rules::Divisor));
+    }
+}
+
+#[test]
+fn paths_are_read(rt: HostRuntime) -> Result<(), Fail> {
+    let alloc = rt.alloc();
+    for (line, length, chosen) in [
+        (b"from 0".as_slice(), 0, [].as_slice()),
+        (b"from 1", 1, &[]),
+        (b"from\t02 1 # next\r", 2, &[1]),
+        (
+            b"from 4294967295 0 4294967294",
+            u32::MAX,
+            &[0, u32::MAX - 1],
+        ),
+        (b"end spent designs 1 nodes 3 next 2 1", 2, &[1]),
+        (
+            b"end spent designs 18446744073709551615 nodes 007 next 3 0 2",
+            3,
+            &[0, 2],
+        ),
+    ] {
+        match read_path(alloc, line) {
+            Ok(path) => {
+                assert_eq!(rt; path.length(), length);
+                assert_eq!(rt; path.chosen(), chosen);
+            }
+            Err(_) => assert!(rt; false),
+        }
+    }
+    for line in [
+        b"".as_slice(),
+        b"from",
+        b"from 1 1",
+        b"from 2 1 0",
+        b"from 2 1 1",
+        b"from 4294967296",
+        b"from 2 x",
+        b"next 2 1",
+        b"end finished designs 2 nodes 4",
+        b"end spent designs 1 nodes 3 next",
+        b"end spent designs 1 nodes 3",
+        b"end spent designs 18446744073709551616 nodes 3 next 0",
+        b"end spent nodes 3 designs 1 next 0",
+    ] {
+        assert!(rt; matches!(read_path(alloc, line), Err(PathRead::Bad)));
+    }
+    entries_are_read_back();
+    paths_are_read_back();
+    Ok(())
+}
+
+#[test]
+#[tactic(auto, using(df_io::proofs::NumbersBack::decimal_short))]
+fn lines_are_written(rt: HostRuntime) {
+    let mut buf = LineBuf::new();
+    put_entry(&mut buf, Entry::Branch(0));
+    assert_eq!(rt; buf.as_slice(), b"branch 0".as_slice());
+    let mut buf = LineBuf::new();
+    put_entry(&mut buf, Entry::Residue { row: 1, divisor: 2 });
+    assert_eq!(rt; buf.as_slice(), b"residue 1 2".as_slice());
+    let mut buf = LineBuf::new();
+    put_end(&mut buf, true, 2, 4);
+    assert_eq!(rt;
+        buf.as_slice(),
+        b"end finished designs 2 nodes 4".as_slice()
+    );
+    let mut buf = LineBuf::new();
+    put_end(&mut buf, false, 1, 3);
+    put_path_start(&mut buf, 2);
+    put_path_column(&mut buf, 1);
+    assert_eq!(rt;
+        buf.as_slice(),
+        b"end spent designs 1 nodes 3 next 2 1".as_slice()
+    );
+    let mut buf = LineBuf::new();
+    put_design_start(&mut buf);
+    assert_eq!(rt; buf.as_slice(), b"design".as_slice());
+}
