@@ -5,18 +5,23 @@
 #![tactic(auto)]
 
 pub mod columns;
+mod counted_rows;
+pub mod deadlines;
 mod divisors;
 pub mod limits;
 pub mod partial;
 pub mod path;
+pub mod path_rows;
 pub mod system;
 mod tallies;
 
 pub use columns::Columns;
+pub use deadlines::MOST_DEADLINES;
 pub use df_walk::{Cell, Rules};
 pub use limits::{MOST_COLUMNS, MOST_ENTRIES, ROW_LIMIT};
 pub use partial::Partial;
 pub use path::Path;
+pub use path_rows::PathRows;
 pub use system::{System, SystemError};
 
 /// Out of memory.
