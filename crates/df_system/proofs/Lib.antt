@@ -12,3 +12,5 @@ pub mod PartialSteps
 pub mod TalliesAtStart
 pub mod LinkedDivisors
 pub mod IncreasingColumns
+pub mod BarredSets
+pub mod BarredTrails

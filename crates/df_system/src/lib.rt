@@ -4,6 +4,7 @@
 //! Laws for the rooms above: proofs/CellCounts, proofs/PositiveCells.
 #![tactic(auto)]
 
+pub mod barred;
 pub mod columns;
 mod divisors;
 pub mod limits;
@@ -12,6 +13,7 @@ pub mod path;
 pub mod system;
 mod tallies;
 
+pub use barred::BarredColumns;
 pub use columns::Columns;
 pub use df_walk::{Cell, Rules};
 pub use limits::{MOST_COLUMNS, MOST_ENTRIES, ROW_LIMIT};
