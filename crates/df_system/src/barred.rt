@@ -236,3 +236,6 @@ impl<'m> BarredColumns<'m> {
         )
     }
 }
+
+#[cfg(test)]
+mod tests;
