@@ -18,3 +18,6 @@ pub mod DeadlineTables
 pub mod PassingRows
 pub mod RowChanges
 pub mod PathRowLaws
+pub mod BarredSets
+pub mod BarredTrails
+pub mod BarredRows

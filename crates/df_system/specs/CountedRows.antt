@@ -1,5 +1,5 @@
 -- The rows of a path as they are kept, and how many of them are over or not met.
-use Rattle.std.specs.Prelude.{◌≡◌, ℕ, ◌+◌, ◌-◌, ◌^◌, ◌<◌, ◌≤◌, Bool, true, false, not, ◌==◌, nat_lt, List, [], ◌∷◌, length, slice_index, slice_index_or, take, reverse, Option, Some, None}
+use Rattle.std.specs.Prelude.{◌≡◌, ℕ, ◌+◌, ◌-◌, ◌^◌, ◌<◌, ◌≤◌, Bool, true, false, not, ◌==◌, nat_lt, List, [], ◌∷◌, length, slice_index, slice_index_or, take, drop, reverse, Option, Some, None}
 use Rattle.df_walk.specs.declared.Cell.{Cell}
 use Rattle.df_walk.specs.declared.Rules.{Rules}
 use Rattle.df_walk.specs.Systems.{System, IsSystem, entries, entry, entry_of, target}
@@ -8,6 +8,7 @@ use Rattle.df_system.specs.declared.path_rows.Turn.{Turn}
 use Rattle.df_system.specs.declared.path_rows.Turn.TheVariants.{Take, TakeBack}
 use Rattle.df_system.specs.declared.limits.TheConstants.{MOST_ENTRIES, ROW_LIMIT}
 use Rattle.df_system.specs.Tallies.{one_if}
+use Rattle.df_system.specs.BarredColumns.{Barring, bars_row}
 use Rattle.df_system.specs.PathRows.{taken_in}
 use Rattle.df_system.specs.Deadlines.{IsDeadline, AreBothDeadlines}
 
@@ -81,10 +82,31 @@ pub record IsStack (s : System) (trail : List ℕ) (count : ℕ) : Type 0 where
   pub columns : (k : ℕ) → k < count → slice_index trail k < length s.columns
   pub small : (k : ℕ) → k < count → IsSmallColumn s (slice_index trail k)
 
-pub record ArePathRows (s : System) (rules : Rules) (width : ℕ) (shorts dues : List ℕ) (trail : List ℕ) (count : ℕ) (rows : List PathRow) : Type 0 where
+-- each level's rows, with those of the levels below it, have their targets under its yes columns
+abbrev pub AllFilled : System → List (List ℕ) → List ℕ → Type 0
+AllFilled s [] chosen = Unit {0}
+AllFilled s (rows ∷ lower) chosen = ((row : ℕ) → row < length s.targets → bars_row (rows ∷ lower) row ≡ true → target s row ≤ taken_in s row chosen) × AllFilled s lower (drop 1 chosen)
+
+-- there is a level for each yes column, and one below them
+pub record AreBarring (s : System) (barring : Barring) (chosen : List ℕ) : Type 0 where
+  pub same : barring.system ≡ s
+  pub depth : length barring.levels ≡ length chosen + 1
+  pub filled : AllFilled s barring.levels chosen
+
+-- the barred rows had their targets before the column of these cells was taken
+abbrev pub HadTargets : List (List ℕ) → List Cell → List PathRow → Type 0
+HadTargets levels column rows = (row : ℕ) → row < length rows → bars_row levels row ≡ true → (row_at rows row).target + entry_of column row ≤ (row_at rows row).taken
+
+-- they have them
+abbrev pub HaveTargets : List (List ℕ) → List PathRow → Type 0
+HaveTargets levels rows = (row : ℕ) → row < length rows → bars_row levels row ≡ true → (row_at rows row).target ≤ (row_at rows row).taken
+
+-- the rows of a path as they are stored
+pub record ArePathRows (s : System) (rules : Rules) (width : ℕ) (shorts dues : List ℕ) (trail : List ℕ) (count : ℕ) (rows : List PathRow) (barring : Barring) : Type 0 where
   pub system : IsSystem s
   pub few_rows : length s.targets < ROW_LIMIT
   pub few_columns : length s.columns ≤ MOST_ENTRIES
   pub deadlines_are : AreBothDeadlines s rules width shorts dues
   pub stacked : IsStack s trail count
   pub rows_are : AreRows s rules (reverse (take count trail)) rows
+  pub barring_are : AreBarring s barring (reverse (take count trail))

@@ -1,21 +1,23 @@
 // What the rows of a path have, where its yes columns alone are decisions: a no changes no need, and takes nothing here.
 // Taking a column and giving it back go along its cells, and write each row's sum and deadline together: that is one step.
 // Deadlines tell how far a path may go on with no's: up to the least of them.
-ghost use Rattle.std.specs.Prelude.{◌≡◌, ℕ, ◌+◌, ◌<◌, ◌≤◌, [], ◌∷◌, length, true, false, is_some, Some, None, IsNone, IfOk, IfSome};
+ghost use Rattle.std.specs.Prelude.{◌≡◌, ℕ, ◌+◌, ◌<◌, ◌≤◌, [], ◌∷◌, length, drop, true, false, is_some, Some, None, IsNone, IfOk, IfSome};
 ghost use Rattle.std.specs.List.{list_all};
-ghost use Rattle.df_walk.specs.Systems.{rows_of, cells, entries, target};
+ghost use Rattle.df_walk.specs.Systems.{AreCells, rows_of, cells, entries, target};
 ghost use Rattle.df_walk.specs.Assignments.{least_row};
 ghost use Rattle.df_system.specs.PathRows.{taken_by, is_over_in, is_met_in, is_short_from, has_residue_from, least_residue_by, divisor_from, IsLimit, IsBarred};
 ghost use Rattle.df_system.specs.Deadlines.{IsDeadline, AreDeadlines};
-ghost use Rattle.df_system.specs.CountedRows.{AreRows, HaveDeadlines, RowsAlong, CanTurn, IsSmallColumn};
+ghost use Rattle.df_system.specs.CountedRows.{AreRows, HaveDeadlines, RowsAlong, CanTurn, IsSmallColumn, HadTargets, HaveTargets};
 ghost use Rattle.df_walk.specs.declared.Rules.TheVariants.{Divisor};
 
 use crate::OutOfMemory;
+use crate::barred::BarredColumns;
 use crate::counted_rows::{CountedRows, PathRow};
 use crate::deadlines::Deadlines;
+use crate::limits::ROW_LIMIT;
 use crate::system::System;
 use df_steps::Steps;
-use df_walk::Rules;
+use df_walk::{Cell, Rules};
 use std::alloc::Global;
 use std::marker::Model;
 use std::sync::ledger::Ledger;
@@ -39,6 +41,8 @@ pub struct PathRows<'m> {
     // the yes columns in the first `count` places, in the order in which they were taken
     trail: Vec<u32>,
     count: usize,
+    // the columns of the rows that have their targets, with a level for each yes column
+    barred: BarredColumns<'m>,
 }
 
 impl<'m> Model for PathRows<'m> {
@@ -50,7 +54,7 @@ impl<'m> Model for PathRows<'m> {
 
     ghost view = { λ p. record { system = p.system.now; rules = p.rules; chosen = reverse (take p.count p.trail.items) } };
 
-    ghost invariant = { λ p. ArePathRows p.system.now p.rules p.deadlines.width p.deadlines.shorts.items p.deadlines.dues.items p.trail.items p.count p.rows };
+    ghost invariant = { λ p. ArePathRows p.system.now p.rules p.deadlines.width p.deadlines.shorts.items p.deadlines.dues.items p.trail.items p.count p.rows p.barred };
 }
 
 /// The row with its target that has taken this much.
@@ -126,6 +130,44 @@ fn first_rows(
     Ok(CountedRows::new(rows))
 }
 
+/// Bars the rows that have their targets before any column is taken.
+fn bar_first(barred: &mut BarredColumns<'_>, rows: &CountedRows)
+    requires rows { length rows.now ≡ length barred.old.system.targets }
+    requires few { length rows.now < ROW_LIMIT }
+    requires empty { barred.old.levels ≡ [] ∷ [] }
+    ensures system { barred.new.system ≡ barred.old.system }
+    ensures depth { length barred.new.levels ≡ 1 }
+    ensures filled { HaveTargets barred.new.levels rows.now }
+{
+    let count = rows.rows().len();
+    for row in 0..count {
+        let now = rows.get(row);
+        if now.target as u64 <= now.taken {
+            barred.bar(row as u32);
+        }
+    }
+}
+
+/// Bars the rows of a column that have their targets since it is taken.
+fn bar_along(barred: &mut BarredColumns<'_>, rows: &CountedRows, column: &[Cell])
+    requires rows { length rows.now ≡ length barred.old.system.targets }
+    requires column { AreCells (length barred.old.system.targets) column.now }
+    requires some { 0 < length barred.old.levels }
+    requires had { HadTargets barred.old.levels column.now rows.now }
+    ensures system { barred.new.system ≡ barred.old.system }
+    ensures lower { drop 1 barred.new.levels ≡ drop 1 barred.old.levels }
+    ensures depth { length barred.new.levels ≡ length barred.old.levels }
+    ensures filled { HaveTargets barred.new.levels rows.now }
+{
+    for cell in column {
+        let row = rows.get(cell.row as usize);
+        let target = row.target as u64;
+        if target <= row.taken && row.taken < target + cell.value as u64 {
+            barred.bar(cell.row);
+        }
+    }
+}
+
 impl<'m> PathRows<'m> {
     /// No column is taken. It takes the room for all rows, for as many yes columns as there are columns, and for the deadlines. It counts no step.
     pub fn new(alloc: Global, system: &'m System, rules: Rules) -> Result<PathRows<'m>, OutOfMemory>
@@ -134,6 +176,8 @@ impl<'m> PathRows<'m> {
         let trail = vec![in alloc; 0; system.columns() as usize]?;
         let deadlines = Deadlines::new(alloc, system, rules)?;
         let rows = first_rows(alloc, system, rules, &deadlines)?;
+        let mut barred = BarredColumns::new(alloc, system)?;
+        bar_first(&mut barred, &rows);
         Ok(PathRows {
             system,
             rules,
@@ -141,6 +185,7 @@ impl<'m> PathRows<'m> {
             rows,
             trail,
             count: 0,
+            barred,
         })
     }
 
@@ -160,6 +205,8 @@ impl<'m> PathRows<'m> {
             Turn::Take,
             steps,
         );
+        self.barred.push();
+        bar_along(&mut self.barred, &self.rows, self.system.column(column));
         self.trail[self.count] = column;
         self.count += 1;
     }
@@ -184,6 +231,7 @@ impl<'m> PathRows<'m> {
             Turn::TakeBack,
             steps,
         );
+        self.barred.pop();
         self.count -= 1;
         Some(column)
     }
@@ -331,5 +379,14 @@ impl<'m> PathRows<'m> {
             }
         }
         true
+    }
+
+    /// A number of columns from this one on that are barred, of those that share its word of 64 in `BarredColumns`. 0 says nothing. It counts no step.
+    pub fn run(&self, column: u32) -> u32
+        requires { column < length self.now.system.columns }
+        ensures barred { (k : ℕ) → k < result → IsBarred self.now (column + k) }
+        ensures inside { column + result ≤ length self.now.system.columns }
+    {
+        self.barred.run(column)
     }
 }
