@@ -161,8 +161,8 @@ barring_less {s} {chosen} barring next column b is = rw is (record { same = b.sa
     filled (rows ∷ lower) h f = f.1
 
 -- a column that the levels bar is barred
-pub barred_by_levels : {s : System} {rules : Rules} {chosen : List ℕ} (barring : Barring) (column : ℕ) → AreBarring s barring chosen → IsBarredBy barring.system barring.levels column → IsBarred (record { system = s; rules = rules; chosen = chosen }) column
-barred_by_levels {s} {rules} {chosen} barring column b by =
+pub barred_by_levels : {s : System} {chosen : List ℕ} (rules : Rules) (barring : Barring) (column : ℕ) → AreBarring s barring chosen → IsBarredBy barring.system barring.levels column → IsBarred (record { system = s; rules = rules; chosen = chosen }) column
+barred_by_levels {s} {chosen} rules barring column b by =
     let is : IsBarredBy s barring.levels column = rw b.same at by in
     let met = filled barring.levels chosen b.filled is.row is.within is.barred in
     (is.row, is.within, is.positive, omega (arith, is.positive))
