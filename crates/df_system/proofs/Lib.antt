@@ -12,3 +12,12 @@ pub mod PartialSteps
 pub mod TalliesAtStart
 pub mod LinkedDivisors
 pub mod IncreasingColumns
+pub mod RowNeeds
+pub mod DeadlineLaws
+pub mod DeadlineTables
+pub mod PassingRows
+pub mod RowChanges
+pub mod PathRowLaws
+pub mod BarredSets
+pub mod BarredTrails
+pub mod BarredRows

@@ -2,3 +2,8 @@ pub mod Storage
 pub mod Divisors
 pub mod Tallies
 pub mod Trails
+pub mod BarredColumns
+pub mod BarredWords
+pub mod PathRows
+pub mod Deadlines
+pub mod CountedRows

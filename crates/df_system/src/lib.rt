@@ -1,22 +1,29 @@
 //! Systems of rows over columns as the solver holds them, and partial assignments whose needs and caps are kept up to date along one column at each decision.
 //! It stands on `df_walk`, whose words its contracts use and whose types it passes on, and on the counter of `df_steps`.
-//! The crates above read entries by `System::entry` and make decisions by a `Partial`, both of which count their steps, and ask for needs, caps, and the least row that is over or under.
+//! The crates above read entries by `System::entry` and make decisions by a `Partial`, both of which count their steps, and ask for needs, caps, and the least row that is over or under. `BarredColumns` tell a search which columns a row without need rules out.
 //! Laws for the rooms above: proofs/CellCounts, proofs/PositiveCells.
 #![tactic(auto)]
 
+pub mod barred;
 pub mod columns;
+mod counted_rows;
+pub mod deadlines;
 mod divisors;
 pub mod limits;
 pub mod partial;
 pub mod path;
+pub mod path_rows;
 pub mod system;
 mod tallies;
 
+pub use barred::BarredColumns;
 pub use columns::Columns;
+pub use deadlines::MOST_DEADLINES;
 pub use df_walk::{Cell, Rules};
 pub use limits::{MOST_COLUMNS, MOST_ENTRIES, ROW_LIMIT};
 pub use partial::Partial;
 pub use path::Path;
+pub use path_rows::PathRows;
 pub use system::{System, SystemError};
 
 /// Out of memory.

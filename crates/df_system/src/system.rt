@@ -2,6 +2,7 @@ ghost use Rattle.std.specs.Prelude.{◌≡◌, ◌≢◌, ℕ, ◌+◌, ◌-◌,
 ghost use Rattle.df_walk.specs.Systems.{IsSystem, AreCells, entry_of, entries, entry, target, cells};
 ghost use Rattle.df_walk.specs.Assignments.{cap, common_divisor};
 ghost use Rattle.df_system.specs.Storage.{AreStarts, columns_of, dense_columns, stored, IsDense, IsZeroColumn, IsZeroAmong};
+ghost use Rattle.df_system.specs.PathRows.{IsFirstResidue};
 
 use crate::OutOfMemory;
 use crate::columns::Columns;
@@ -247,6 +248,15 @@ impl System {
         value_in(self.column(column), row)
     }
 
+    /// The entry of a row and a column, for what is made once of all entries. It counts no step.
+    pub(crate) fn value(&self, row: u32, column: u32) -> u32
+        requires row { row < length self.now.targets }
+        requires column { column < length self.now.columns }
+        ensures { result ≡ entry self.now row column }
+    {
+        value_in(self.column(column), row)
+    }
+
     /// The greatest common divisor of a row's entries in the columns from `from` on, and 0 where all are 0. It counts no step.
     /// It goes along the columns up to `from` at which this divisor changes, of which a row has at most 32.
     pub fn divisor(&self, row: u32, from: u32) -> u32
@@ -259,5 +269,26 @@ impl System {
             place = self.divisors.links[place].next;
         }
         self.divisors.links[place].divisor
+    }
+
+    /// The first column from which on the row's divisor is at least 2 and doesn't divide the need, and one past the columns where there is none.
+    pub(crate) fn first_residue(&self, row: u32, need: u64) -> u32
+        requires row { row < length self.now.targets }
+        ensures { IsFirstResidue (entries self.now row) need result }
+    {
+        let columns = self.columns() as usize;
+        let mut low = 0;
+        let mut place = self.divisors.heads[row as usize];
+        while low <= columns {
+            let link = self.divisors.links[place];
+            if link.column < low {
+                place = link.next;
+            } else if link.divisor > 1 && need % link.divisor as u64 != 0 {
+                return low as u32;
+            } else {
+                low = link.column.saturating_add(1);
+            }
+        }
+        columns as u32 + 1
     }
 }

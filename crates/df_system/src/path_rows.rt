@@ -1,0 +1,401 @@
+// What the rows of a path have, where its yes columns alone are decisions: a no changes no need, and costs nothing here.
+// Taking a column and giving it back go along its cells, and write each row's sum and deadline together: that is one step.
+// The least deadline tells how far a path may go on with no's; the columns of rows that have their targets are barred for it.
+// Deadlines and barred columns are made from the entries without the counter, as divisors are: what counts is each cell that a
+// decision changes and each that a column is tried by.
+ghost use Rattle.std.specs.Prelude.{◌≡◌, ℕ, ◌+◌, ◌<◌, ◌≤◌, [], ◌∷◌, length, drop, true, false, is_some, Some, None, IsNone, IfOk, IfSome};
+ghost use Rattle.std.specs.List.{list_all};
+ghost use Rattle.df_walk.specs.Systems.{AreCells, rows_of, cells, entries, target};
+ghost use Rattle.df_walk.specs.Assignments.{least_row};
+ghost use Rattle.df_system.specs.PathRows.{taken_by, is_over_in, is_met_in, is_short_from, has_residue_from, least_residue_by, divisor_from, IsLimit, IsBarred};
+ghost use Rattle.df_system.specs.Deadlines.{IsDeadline, AreDeadlines};
+ghost use Rattle.df_system.specs.CountedRows.{AreRows, HaveDeadlines, RowsAlong, CanTurn, IsSmallColumn, HadTargets, HaveTargets};
+ghost use Rattle.df_walk.specs.declared.Rules.TheVariants.{Divisor};
+
+use crate::OutOfMemory;
+use crate::barred::{BarredColumns, COLUMNS_A_WORD};
+use crate::counted_rows::{CountedRows, PathRow};
+use crate::deadlines::Deadlines;
+use crate::limits::ROW_LIMIT;
+use crate::system::System;
+use df_steps::Steps;
+use df_walk::{Cell, Rules};
+use std::alloc::Global;
+use std::marker::Model;
+use std::sync::ledger::Ledger;
+
+/// What happens to a column.
+#[derive(Clone, Copy)]
+pub(crate) enum Turn {
+    Take,
+    TakeBack,
+}
+
+/// The yes columns of a path of a system, which are taken and given back in the order of a stack, and what each row has under them.
+///
+/// Contracts see the system, the rules, and the yes columns, the last one first.
+#[derive(Drop)]
+pub struct PathRows<'m> {
+    system: &'m System,
+    rules: Rules,
+    deadlines: Deadlines,
+    rows: CountedRows,
+    // the yes columns in the first `count` places, in the order in which they were taken
+    trail: Vec<u32>,
+    count: usize,
+    // the columns of the rows that have their targets, with a level for each yes column
+    barred: BarredColumns<'m>,
+}
+
+impl<'m> Model for PathRows<'m> {
+    ghost use Rattle.std.specs.Prelude.{reverse, take};
+    ghost use Rattle.df_system.specs.PathRows.{Yeses};
+    ghost use Rattle.df_system.specs.CountedRows.{ArePathRows};
+
+    ghost Value = { Yeses };
+
+    ghost view = { λ p. record { system = p.system.now; rules = p.rules; chosen = reverse (take p.count p.trail.items) } };
+
+    ghost invariant = { λ p. ArePathRows p.system.now p.rules p.deadlines.width p.deadlines.shorts.items p.deadlines.dues.items p.trail.items p.count p.rows p.barred };
+}
+
+/// The row with its target that has taken this much.
+fn row_with(
+    deadlines: &Deadlines,
+    system: &System,
+    rules: Rules,
+    row: u32,
+    target: u32,
+    taken: u64,
+) -> PathRow
+    requires row { row < length system.now.targets }
+    requires deadlines { AreDeadlines system.now rules deadlines.now.width deadlines.now.dues.items }
+    ensures target { result.target ≡ target }
+    ensures taken { result.taken ≡ taken }
+    ensures due { IsDeadline rules (entries system.now row) target taken result.due }
+{
+    let due = match (target as u64).checked_sub(taken) {
+        Some(need) => deadlines.due(system, rules, row, need),
+        None => 0,
+    };
+    PathRow { target, due, taken }
+}
+
+/// Takes a column or gives it back, in one step for each of its cells.
+fn turn_along<L: Ledger>(
+    rows: &mut CountedRows,
+    deadlines: &Deadlines,
+    system: &System,
+    rules: Rules,
+    column: u32,
+    turn: Turn,
+    steps: &mut Steps<L>,
+)
+    requires column { column < length system.now.columns }
+    requires deadlines { AreDeadlines system.now rules deadlines.now.width deadlines.now.dues.items }
+    requires long { length rows.old ≡ length system.now.targets }
+    requires due { HaveDeadlines system.now rules rows.old }
+    requires can { CanTurn turn (cells system.now column) rows.old }
+    ensures along { RowsAlong turn (cells system.now column) rows.old rows.new }
+    ensures due { HaveDeadlines system.now rules rows.new }
+    ensures small { IsSmallColumn system.now column }
+    ensures cost { steps.new ≡ steps.old + length (cells system.now column) }
+{
+    for cell in system.column(column) {
+        steps.tick();
+        let before = rows.get(cell.row as usize);
+        let value = cell.value as u64;
+        let taken = match turn {
+            Turn::Take => before.taken + value,
+            Turn::TakeBack => before.taken - value,
+        };
+        let after = row_with(deadlines, system, rules, cell.row, before.target, taken);
+        rows.set(cell.row as usize, after);
+    }
+}
+
+/// The rows of a system where no column is taken.
+fn first_rows(
+    alloc: Global,
+    system: &System,
+    rules: Rules,
+    deadlines: &Deadlines,
+) -> Result<CountedRows, OutOfMemory>
+    requires { AreDeadlines system.now rules deadlines.now.width deadlines.now.dues.items }
+    ensures { IfOk result (λ rows. AreRows system.now rules [] rows) }
+{
+    let count = system.rows();
+    let mut rows = Vec::with_capacity(alloc, count as usize)?;
+    for row in 0..count {
+        rows.push(row_with(deadlines, system, rules, row, system.target(row), 0))?;
+    }
+    Ok(CountedRows::new(rows))
+}
+
+/// Bars the rows that have their targets before any column is taken.
+fn bar_first(barred: &mut BarredColumns<'_>, rows: &CountedRows)
+    requires rows { length rows.now ≡ length barred.old.system.targets }
+    requires few { length rows.now < ROW_LIMIT }
+    requires empty { barred.old.levels ≡ [] ∷ [] }
+    ensures system { barred.new.system ≡ barred.old.system }
+    ensures depth { length barred.new.levels ≡ 1 }
+    ensures filled { HaveTargets barred.new.levels rows.now }
+{
+    let count = rows.rows().len();
+    for row in 0..count {
+        let now = rows.get(row);
+        if now.target as u64 <= now.taken {
+            barred.bar(row as u32);
+        }
+    }
+}
+
+/// Bars the rows of a column that have their targets since it is taken.
+fn bar_along(barred: &mut BarredColumns<'_>, rows: &CountedRows, column: &[Cell])
+    requires rows { length rows.now ≡ length barred.old.system.targets }
+    requires column { AreCells (length barred.old.system.targets) column.now }
+    requires some { 0 < length barred.old.levels }
+    requires had { HadTargets barred.old.levels column.now rows.now }
+    ensures system { barred.new.system ≡ barred.old.system }
+    ensures lower { drop 1 barred.new.levels ≡ drop 1 barred.old.levels }
+    ensures depth { length barred.new.levels ≡ length barred.old.levels }
+    ensures filled { HaveTargets barred.new.levels rows.now }
+{
+    for cell in column {
+        let row = rows.get(cell.row as usize);
+        let target = row.target as u64;
+        if target <= row.taken && row.taken < target + cell.value as u64 {
+            barred.bar(cell.row);
+        }
+    }
+}
+
+impl<'m> PathRows<'m> {
+    /// No column is taken. It takes the room for all rows, for as many yes columns as there are columns, for deadlines and for barred columns.
+    /// It counts no step.
+    pub fn new(alloc: Global, system: &'m System, rules: Rules) -> Result<PathRows<'m>, OutOfMemory>
+        ensures { IfOk result (λ p. p ≡ record { system = system.now; rules = rules; chosen = [] }) }
+    {
+        let trail = vec![in alloc; 0; system.columns() as usize]?;
+        let deadlines = Deadlines::new(alloc, system, rules)?;
+        let rows = first_rows(alloc, system, rules, &deadlines)?;
+        let mut barred = BarredColumns::new(alloc, system)?;
+        bar_first(&mut barred, &rows);
+        Ok(PathRows {
+            system,
+            rules,
+            deadlines,
+            rows,
+            trail,
+            count: 0,
+            barred,
+        })
+    }
+
+    /// Takes a column: a path with one yes more. There may be as many yes columns as there are columns.
+    pub fn take<L: Ledger>(&mut self, column: u32, steps: &mut Steps<L>)
+        requires column { column < length self.old.system.columns }
+        requires room { length self.old.chosen < length self.old.system.columns }
+        ensures value { self.new ≡ record self.old { chosen = column ∷ self.old.chosen } }
+        ensures cost { steps.new ≡ steps.old + length (cells self.old.system column) }
+    {
+        turn_along(
+            &mut self.rows,
+            &self.deadlines,
+            self.system,
+            self.rules,
+            column,
+            Turn::Take,
+            steps,
+        );
+        self.barred.push();
+        bar_along(&mut self.barred, &self.rows, self.system.column(column));
+        self.trail[self.count] = column;
+        self.count += 1;
+    }
+
+    /// Gives the last yes column back, and tells it: `None` exactly where there is no yes column.
+    pub fn undo<L: Ledger>(&mut self, steps: &mut Steps<L>) -> Option<u32>
+        ensures none { IsNone result → (self.old.chosen ≡ []) × (self.new ≡ self.old) × (steps.new ≡ steps.old) }
+        ensures value { IfSome result (λ column. self.old ≡ record self.new { chosen = column ∷ self.new.chosen }) }
+        ensures within { IfSome result (λ column. column < length self.old.system.columns) }
+        ensures cost { IfSome result (λ column. steps.new ≡ steps.old + length (cells self.old.system column)) }
+    {
+        if self.count == 0 {
+            return None;
+        }
+        let column = self.trail[self.count - 1];
+        turn_along(
+            &mut self.rows,
+            &self.deadlines,
+            self.system,
+            self.rules,
+            column,
+            Turn::TakeBack,
+            steps,
+        );
+        self.barred.pop();
+        self.count -= 1;
+        Some(column)
+    }
+
+    /// The least row that has taken more than its target.
+    pub fn first_over(&self) -> Option<u32>
+        ensures { result ≡ least_row self.now.system (is_over_in self.now) }
+    {
+        match self.rows.first_over() {
+            Some(row) => Some(row as u32),
+            None => None,
+        }
+    }
+
+    /// Whether some row has taken more than its target.
+    pub fn is_over(&self) -> bool
+        ensures { result ≡ is_some (least_row self.now.system (is_over_in self.now)) }
+    {
+        self.rows.is_over()
+    }
+
+    /// Whether all rows have taken their targets.
+    pub fn is_met(&self) -> bool
+        ensures { result ≡ list_all (is_met_in self.now) (rows_of self.now.system) }
+    {
+        !self.rows.is_unmet()
+    }
+
+    /// The need of a row: `None` exactly where it has taken more than its target.
+    pub fn need(&self, row: u32) -> Option<u64>
+        requires { row < length self.now.system.targets }
+        ensures none { IsNone result → target self.now.system row < taken_by self.now row }
+        ensures value { IfSome result (λ n. target self.now.system row ≡ taken_by self.now row + n) }
+    {
+        let row = self.rows.get(row as usize);
+        (row.target as u64).checked_sub(row.taken)
+    }
+
+    /// The least number of columns that a path with these yes columns may have so that a row rules it out, and one past the columns where none does.
+    /// A row does so that is over, or whose need is above what its later entries add up to, or by the divisor's rules that has a residue.
+    /// From the limit on each path with further no's is ruled out. It looks at each row.
+    pub fn limit(&self) -> u32
+        ensures { IsLimit self.now result }
+    {
+        let mut limit = self.system.columns() + 1;
+        for row in self.rows.rows() {
+            if row.due < limit {
+                limit = row.due;
+            }
+        }
+        limit
+    }
+
+    /// Whether the need of a row is above what its entries from a column on add up to. A row that is over isn't short.
+    pub fn is_short(&self, row: u32, from: u32) -> bool
+        requires row { row < length self.now.system.targets }
+        requires from { from ≤ length self.now.system.columns }
+        ensures { result ≡ is_short_from self.now from row }
+    {
+        match self.need(row) {
+            Some(need) => self.deadlines.short(self.system, row, need) <= from,
+            None => false,
+        }
+    }
+
+    /// The least row whose need is above what its entries from a column on add up to.
+    pub fn least_short(&self, from: u32) -> Option<u32>
+        requires { from ≤ length self.now.system.columns }
+        ensures { result ≡ least_row self.now.system (is_short_from self.now from) }
+    {
+        for row in 0..self.system.rows() {
+            if self.rows.get(row as usize).due <= from && self.is_short(row, from) {
+                return Some(row);
+            }
+        }
+        None
+    }
+
+    /// The divisor of a row's entries from a column on, where it is at least 2 and doesn't divide the row's need.
+    pub fn residue(&self, row: u32, from: u32) -> Option<u32>
+        requires row { row < length self.now.system.targets }
+        requires from { from ≤ length self.now.system.columns }
+        requires not_over { is_over_in self.now row ≡ false }
+        ensures none { IsNone result → has_residue_from self.now from row ≡ false }
+        ensures some { IfSome result (λ d. has_residue_from self.now from row ≡ true) }
+        ensures divisor { IfSome result (λ d. d ≡ divisor_from self.now.system from row) }
+    {
+        let row_now = self.rows.get(row as usize);
+        let need = row_now.target as u64 - row_now.taken;
+        if need == 0 {
+            return None;
+        }
+        let divisor = self.system.divisor(row, from);
+        if divisor > 1 && need % divisor as u64 != 0 {
+            Some(divisor)
+        } else {
+            None
+        }
+    }
+
+    /// The least row with a residue, and its divisor, where the rules look for one.
+    pub fn least_residue(&self, from: u32) -> Option<(u32, u32)>
+        requires from { from ≤ length self.now.system.columns }
+        requires none_over { least_row self.now.system (is_over_in self.now) ≡ None }
+        ensures none { IsNone result → least_residue_by self.now.rules self.now from ≡ None }
+        ensures row { IfSome result (λ found. least_residue_by self.now.rules self.now from ≡ Some found.0) }
+        ensures divisor { IfSome result (λ found. found.1 ≡ divisor_from self.now.system from found.0) }
+    {
+        match self.rules {
+            Rules::Plain => None,
+            Rules::Divisor => self.first_residue(from),
+        }
+    }
+
+    fn first_residue(&self, from: u32) -> Option<(u32, u32)>
+        requires from { from ≤ length self.now.system.columns }
+        requires rules { self.now.rules ≡ Divisor }
+        requires none_over { least_row self.now.system (is_over_in self.now) ≡ None }
+        ensures none { IsNone result → least_row self.now.system (has_residue_from self.now from) ≡ None }
+        ensures row { IfSome result (λ found. least_row self.now.system (has_residue_from self.now from) ≡ Some found.0) }
+        ensures divisor { IfSome result (λ found. found.1 ≡ divisor_from self.now.system from found.0) }
+    {
+        for row in 0..self.system.rows() {
+            if self.rows.get(row as usize).due <= from {
+                if let Some(divisor) = self.residue(row, from) {
+                    return Some((row, divisor));
+                }
+            }
+        }
+        None
+    }
+
+    /// Whether a column fits: each of its entries is at most its row's need. It counts each cell that it reads.
+    pub fn fits<L: Ledger>(&self, column: u32, steps: &mut Steps<L>) -> bool
+        requires { column < length self.now.system.columns }
+        ensures no { result ≡ false → IsBarred self.now column }
+        ensures yes { result ≡ true → IsBarred self.now column → ⊥ }
+        ensures rises { steps.old ≤ steps.new }
+        ensures cost { steps.new ≤ steps.old + length (cells self.now.system column) }
+    {
+        for cell in self.system.column(column) {
+            steps.tick();
+            let row = self.rows.get(cell.row as usize);
+            if (row.target as u64) < row.taken + cell.value as u64 {
+                return false;
+            }
+        }
+        true
+    }
+
+    /// A number of columns from this one on that are barred by rows that need nothing, of those that share its word in `BarredColumns`.
+    /// 0 says nothing. It counts no step.
+    pub fn run(&self, column: u32) -> u32
+        requires { column < length self.now.system.columns }
+        ensures barred { (k : ℕ) → k < result → IsBarred self.now (column + k) }
+        ensures inside { column + result ≤ length self.now.system.columns }
+        ensures few { result ≤ COLUMNS_A_WORD }
+    {
+        self.barred.run(column)
+    }
+}
+
+#[cfg(test)]
+mod tests;
