@@ -13,7 +13,7 @@ use Rattle.df_subsets.specs.Blocks.{before}
 use Rattle.df_subsets.specs.Subsets.{place_of}
 use Rattle.df_subsets.specs.SetLaws.{AreSets}
 use Rattle.df_maps.specs.Laws.{AreGroup}
-use Rattle.df_lang.specs.Problems.{Stated, IsStated, IsBlock, point_count}
+use Rattle.df_lang.specs.Problems.{Stated}
 use Rattle.df_orbits.specs.Laws.{AreRepresentatives, RepresentativesTellOrbits, PlacesAreFound}
 use Rattle.df_walk.specs.Systems.{entry, entry_of}
 use Rattle.df_kramer_mesner.specs.OrbitSystems.{maps_of_problem, orbits_of, columns_of, targets_of, is_kept, entries_of, cells_of, entry_at, column_at, column_number, orbit_system}

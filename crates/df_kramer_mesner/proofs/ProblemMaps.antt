@@ -1,5 +1,5 @@
 -- The maps of a problem are a group, of points and of blocks.
-use Rattle.std.proofs.Common.{[], All}
+use Rattle.std.proofs.Common.{[]}
 use Rattle.std.specs.List.{range_with_len}
 use Rattle.df_lists.specs.NumberSets.{IsSet}
 use Rattle.df_lists.proofs.ListPlaces.{all_members}
