@@ -9,21 +9,17 @@ use Rattle.df_maps.specs.Laws.{AreGroup}
 use Rattle.df_design.specs.LeftBlocks.{is_after, IsSettled, IsMet, IsImageAfter, AreMet}
 use Rattle.df_design.proofs.DesignBlocks.{map_numbered}
 
--- each number is that of a full map
-map_listed : (M : MapGroup) → AreGroup M → (i : ℕ) → i < length (full_maps M) → In (full_maps M) (map_number M i)
-map_listed M A i l =
-    subst (λ maps. In maps (map_number M i)) (sym A.numbered)
-    (In-map (map_number M) (range_with_len 0 (length (full_maps M))) i (In-range 0 (length (full_maps M)) i (omega arith) (omega (arith, l))))
-
 module _ (M : MapGroup) (A : AreGroup M) (b : List ℕ) (last : Option (List ℕ)) (old : List (List ℕ)) where
   -- an image that comes after the last block is met
   pub met_more : (ready new : List (List ℕ)) (i : ℕ) (y : List ℕ) → AreMet M b last old ready i → i < length (full_maps M) → y ≡ image M (map_number M i) b → is_after last y ≡ true → IsMet ready y new → AreMet M b last old new (i + 1)
-  met_more ready new i y m l e after h = record {
-    sorted = h.sorted;
-    inside = λ z j. ⊎_elim (λ k. m.inside z k) (λ same. inr (record { map = map_number M i; full = map_listed M A i l; image_is = sym e ∙ sym same; after = ap (is_after last) same ∙ after })) (h.inside z j);
-    images = λ j k a. ⊎_elim (λ same. subst (λ n. IsSettled new (image M (map_number M n) b)) (sym same) (subst (IsSettled new) e h.here)) (λ ne. let less : j < i = omega arith in h.still (image M (map_number M j) b) (m.images j less a)) (cases_eq j i);
-    still = λ z k. h.still z (m.still z k);
-  }
+  met_more ready new i y m l e after h =
+      let full = subst (λ maps. In maps (map_number M i)) (sym A.numbered) (In-map (map_number M) (range_with_len 0 (length (full_maps M))) i (In-range 0 (length (full_maps M)) i (omega arith) (omega (arith, l)))) in
+      record {
+        sorted = h.sorted;
+        inside = λ z j. ⊎_elim (λ k. m.inside z k) (λ same. inr (record { map = map_number M i; full = full; image_is = sym e ∙ sym same; after = ap (is_after last) same ∙ after })) (h.inside z j);
+        images = λ j k a. ⊎_elim (λ same. subst (λ n. IsSettled new (image M (map_number M n) b)) (sym same) (subst (IsSettled new) e h.here)) (λ ne. let less : j < i = omega arith in h.still (image M (map_number M j) b) (m.images j less a)) (cases_eq j i);
+        still = λ z k. h.still z (m.still z k);
+      }
 
   -- an image that doesn't is passed over
   pub met_same : (ready : List (List ℕ)) (i : ℕ) (y : List ℕ) → AreMet M b last old ready i → y ≡ image M (map_number M i) b → is_after last y ≡ false → AreMet M b last old ready (i + 1)

@@ -1,7 +1,7 @@
 -- The earliest of the blocks that were met, up to a number of them: what a block more makes of them, and that they begin the list of all of them.
 use Rattle.std.proofs.Common.{◌≡◌, ℕ, suc, zero, ◌+◌, ◌-◌, ◌<◌, ◌≤◌, Bool, true, false, List, [], ◌∷◌, ◌++◌, length, get_or, take, drop, refl, sym, ap, ap₂, ◌∙◌, subst, inl, inr, ◌⊎◌, ⊎_elim, arith, length-append, append_assoc, ◌≢◌, ◌&&◌, not, eqb, ltb, eq-eqb, eqb-true, lt-ltb, ltb-true, Option, None, Some}
 use Rattle.std.specs.Prelude.{option_to_list}
-use Rattle.std.proofs.lemmas.Bool.{false≢true, and_parts, cases_eq}
+use Rattle.std.proofs.lemmas.Bool.{false≢true, and_parts, cases_eq, not-true, not-false}
 use Rattle.std.proofs.lemmas.List.{take-append-drop, take-append-le, drop-append-le}
 use Rattle.df_lists.specs.Membership.{In}
 use Rattle.df_lists.specs.Orders.{IsOrder, IsSorted}
@@ -34,20 +34,12 @@ take_before (x ∷ xs) zero y h z i = absurd i
 take_before (x ∷ xs) (suc n) y h z (inl e) = subst (λ w. before w y ≡ true) e (h 0 (omega arith))
 take_before (x ∷ xs) (suc n) y h z (inr i) = take_before xs n y (λ j l. h (suc j) (omega (arith, l))) z i
 
-not_true : (v : Bool) → not v ≡ true → v ≡ false
-not_true true h = absurd (false≢true h)
-not_true false h = refl
-
-not_false : (v : Bool) → not v ≡ false → v ≡ true
-not_false true h = refl
-not_false false h = absurd (false≢true (sym h))
-
 and_second : (a b : Bool) → a ≡ true → (a && b) ≡ false → b ≡ false
 and_second true b e h = h
 and_second false b e h = absurd (false≢true e)
 
 stands_later : (place n : ℕ) (v : Bool) → place < n → (ltb place n && not v) ≡ false → v ≡ true
-stands_later place n v l h = not_false v (and_second (ltb place n) (not v) (lt-ltb place n l) h)
+stands_later place n v l h = not-false v (and_second (ltb place n) (not v) (lt-ltb place n l) h)
 
 module _ (O : IsOrder before) where
   -- what comes after the last member comes after all
@@ -164,7 +156,7 @@ module _ (O : IsOrder before) where
   met_there xs place y s there h =
       let p = and_parts (ltb place (length xs)) (not (before y (get_or xs place []))) h in
       let l = ltb-true place (length xs) p.0 in
-      met_before xs y s (subst (In xs) (O.either (get_or xs place []) y (there l) (not_true (before y (get_or xs place [])) p.1)) (In-get_or xs place [] l))
+      met_before xs y s (subst (In xs) (O.either (get_or xs place []) y (there l) (not-true (before y (get_or xs place [])) p.1)) (In-get_or xs place [] l))
 
   -- it stands nowhere, and there is room for it at a place
   pub met_room : (xs : List (List ℕ)) (place : ℕ) (y : List ℕ) → IsSorted before xs → length xs < READY → ((j : ℕ) → j < place → before (get_or xs j []) y ≡ true) → (ltb place (length xs) && not (before y (get_or xs place []))) ≡ false

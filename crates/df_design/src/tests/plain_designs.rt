@@ -104,7 +104,7 @@ pub(crate) struct PlainDesign {
 // The orbits that a number chooses: the first orbit by its highest bit.
 fn chosen(rt: &impl Abort, alloc: Global, orbits: &[Block], number: u32) -> Vec<Block> {
     let mut chosen = Vec::new(alloc);
-    let mut bit = orbits.len() as u32;
+    let mut bit = orbits.len().min(32) as u32;
     for orbit in orbits {
         bit = bit.wrapping_sub(1);
         if bit < 32 && number >> bit & 1 == 1 {
