@@ -1,7 +1,7 @@
 // The orbit matrix of a problem.
 ghost use Rattle.std.specs.Prelude.{◌≡◌, ◌⊎◌, ◌+◌, ◌<◌, ◌≤◌, ◌-◌, ◌∷◌, [], length, All, Some, None, IfOk, IfErr, IsOk};
 ghost use Rattle.df_lang.specs.Problems.{point_count, IsBlock, IsStated};
-ghost use Rattle.df_kramer_mesner.specs.OrbitSystems.{orbit_system, pairs_of, needed_of, orbits_of, columns_of, targets_of, targets_of as all_targets, pair_at, needed_at, column_at, orbit_at, entry_at, cells_of, column_number, representative};
+ghost use Rattle.df_kramer_mesner.specs.OrbitSystems.{orbit_system, pairs_of, needed_of, orbits_of, columns_of, targets_of, targets_of as all_targets, maps_of_problem, pair_at, needed_at, column_at, orbit_at, entry_at, cells_of, column_number, representative};
 ghost use Rattle.df_matrix.specs.Limits.{limit_passed, or_else, column_limit, entry_limit, column_limit_of, entry_limit_of, passed_by};
 ghost use Rattle.df_matrix.specs.MatrixParts.{AreColumns, needed_places, kept_places};
 ghost use Rattle.df_matrix.specs.declared.matrix.MatrixError.TheVariants.{OutOfMemory as OutOfMemoryError};
@@ -13,6 +13,7 @@ use crate::columns::{
 use crate::orbits::ProblemOrbits;
 use df_kramer_mesner::{columns_are_sparse, orbits_are_numbered, rows_are_pairs_and_needed};
 use df_lang::Problem;
+use df_maps::Maps;
 use df_orbits::{MOST_SUMMED, OrbitError};
 use df_subsets::{Block, Point};
 use df_system::System;
@@ -76,6 +77,13 @@ impl OrbitMatrix {
         ensures { result.now ≡ self.now }
     {
         self.orbits.problem()
+    }
+
+    /// The maps x -> mx + h of the problem.
+    pub fn maps(&self) -> &Maps
+        ensures { result.now ≡ maps_of_problem self.now }
+    {
+        self.orbits.maps()
     }
 
     /// The number of rows of pairs. The rows after them are those of required orbits.

@@ -1,0 +1,6 @@
+pub mod ChosenColumns
+pub mod FirstBlocks
+pub mod ReadyBlocks
+pub mod DesignBlocks
+pub mod MetImages
+pub mod RemainingLaws

@@ -1,0 +1,3 @@
+pub mod RemainingDesigns
+pub mod LeftBlocks
+pub mod HeldDesigns

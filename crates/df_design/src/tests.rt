@@ -1,0 +1,4 @@
+mod callers;
+mod comparisons;
+mod plain_designs;
+mod worked_designs;
