@@ -11,14 +11,14 @@ use Rattle.df_lists.proofs.TestLaws.{any_from, any_gives}
 use Rattle.df_subsets.specs.Blocks.{before}
 use Rattle.df_subsets.specs.Subsets.{same_list}
 use Rattle.df_subsets.specs.SubsetLaws.{CandidatesAreAll}
-use Rattle.df_acting.proofs.ClassLaws.{class_from, class_gives}
+use Rattle.df_acting.proofs.OrbitLaws.{one_orbit_from, one_orbit_gives}
 use Rattle.df_maps.proofs.SpreadLaws.{lists_equal}
 use Rattle.df_maps.specs.FullMaps.{MapGroup, full_maps, image, map_number}
 use Rattle.df_maps.specs.Laws.{AreGroup}
 use Rattle.df_lang.specs.Problems.{Stated, point_count}
-use Rattle.df_kramer_mesner.specs.OrbitSystems.{maps_of_problem, all_blocks, alike, has_alike, orbits_of, columns_of, is_kept}
+use Rattle.df_kramer_mesner.specs.OrbitSystems.{maps_of_problem, all_blocks, in_one_orbit, has_in_orbit, orbits_of, columns_of, is_kept}
 use Rattle.df_kramer_mesner.proofs.ProblemMaps.{blocks_group, blocks_spread}
-use Rattle.df_acting.specs.Earliest.{is_earliest}
+use Rattle.df_acting.specs.Representatives.{is_representative}
 use Rattle.df_families.specs.Families.{picked}
 use Rattle.df_families.proofs.FamilyLists.{picked_inside}
 use Rattle.df_correspondence.specs.Designs.{design}
@@ -26,7 +26,7 @@ use Rattle.df_design.specs.LeftBlocks.{is_after, blocks_after, IsSettled, IsImag
 use Rattle.df_design.proofs.ReadyBlocks.{begins}
 
 pub design_sorted : CandidatesAreAll → (s : Stated) (x : List Bool) → IsSorted before (design s x)
-design_sorted all s x = sorted-filter before (has_alike s (picked (columns_of s) x)) (all_blocks s) (all (point_count s) s.sizes).sorted
+design_sorted all s x = sorted-filter before (has_in_orbit s (picked (columns_of s) x)) (all_blocks s) (all (point_count s) s.sizes).sorted
 
 -- a full map has a number
 pub map_numbered : (M : MapGroup) → AreGroup M → (g : ℕ × ℕ) → In (full_maps M) g → (j : ℕ) × (j < length (full_maps M)) × (map_number M j ≡ g)
@@ -41,7 +41,7 @@ module _ (s : Stated) (A : AreGroup (maps_of_problem s)) (x : List Bool) where
   -- a base block is one of all blocks
   pub base_listed : (c : List ℕ) → In (picked (columns_of s) x) c → In (all_blocks s) c
   base_listed c i =
-      (In-filter_gives (is_earliest before (image (maps_of_problem s)) (full_maps (maps_of_problem s))) (all_blocks s) c
+      (In-filter_gives (is_representative before (image (maps_of_problem s)) (full_maps (maps_of_problem s))) (all_blocks s) c
       (In-filter_gives (is_kept s) (orbits_of s) c (picked_inside (columns_of s) x c i)).0).0
 
   pub base_set : (c : List ℕ) → In (picked (columns_of s) x) c → IsSet (point_count s) c
@@ -51,16 +51,16 @@ module _ (s : Stated) (A : AreGroup (maps_of_problem s)) (x : List Bool) where
   pub image_left : (last : Option (List ℕ)) (c y : List ℕ) → In (picked (columns_of s) x) c → IsImageAfter (maps_of_problem s) c last y → In (blocks_after s x last) y
   image_left last c y i h =
       let listed = subst (In (all_blocks s)) h.image_is ((blocks_spread s A).moves h.map h.full c (base_listed c i)) in
-      let class = class_from same_list (image M) (IsSet (point_count s)) (full_maps M) lists_equal (blocks_group s A) h.map c y h.full h.image_is in
-      In-filter (is_after last) (design s x) y (In-filter (has_alike s (picked (columns_of s) x)) (all_blocks s) y listed (any_from (λ c. alike s c y) (picked (columns_of s) x) c i class)) h.after
+      let orbit = one_orbit_from same_list (image M) (IsSet (point_count s)) (full_maps M) lists_equal (blocks_group s A) h.map c y h.full h.image_is in
+      In-filter (is_after last) (design s x) y (In-filter (has_in_orbit s (picked (columns_of s) x)) (all_blocks s) y listed (any_from (λ c. in_one_orbit s c y) (picked (columns_of s) x) c i orbit)) h.after
 
   -- and each of these is such an image
   pub left_image : (last : Option (List ℕ)) (y : List ℕ) → In (blocks_after s x last) y → (c : List ℕ) × In (picked (columns_of s) x) c × IsImageAfter (maps_of_problem s) c last y
   left_image last y i =
       let here = In-filter_gives (is_after last) (design s x) y i in
-      let class = In-filter_gives (has_alike s (picked (columns_of s) x)) (all_blocks s) y here.0 in
-      let c = any_gives (λ c. alike s c y) (picked (columns_of s) x) class.1 in
-      let g = class_gives same_list (image M) (IsSet (point_count s)) (full_maps M) lists_equal (blocks_group s A) c.0 y c.2 in
+      let orbit = In-filter_gives (has_in_orbit s (picked (columns_of s) x)) (all_blocks s) y here.0 in
+      let c = any_gives (λ c. in_one_orbit s c y) (picked (columns_of s) x) orbit.1 in
+      let g = one_orbit_gives same_list (image M) (IsSet (point_count s)) (full_maps M) lists_equal (blocks_group s A) c.0 y c.2 in
       (c.0, c.1, record { map = g.0; full = g.1; image_is = g.2; after = here.1 })
 
   -- with no base block left, what is ready begins the design's blocks after the last one

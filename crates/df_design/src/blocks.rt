@@ -7,7 +7,8 @@
 ghost use Rattle.std.specs.Prelude.{◌≡◌, ◌==◌, ◌&&◌, ◌∷◌, [], ◌⊎◌, ◌≤◌, ◌<◌, ◌-◌, ℕ, List, true, false, length, slice_index_or, nat_lt, not, MatchOption};
 ghost use Rattle.df_lists.specs.Membership.{In};
 ghost use Rattle.df_lists.specs.Orders.{IsSorted};
-ghost use Rattle.df_subsets.specs.Blocks.{IsBlock, before};
+ghost use Rattle.df_lists.specs.NumberSets.{IsSet};
+ghost use Rattle.df_subsets.specs.Blocks.{before};
 ghost use Rattle.df_maps.specs.FullMaps.{point_count};
 ghost use Rattle.df_kramer_mesner.specs.OrbitSystems.{columns_of, maps_of_problem};
 ghost use Rattle.df_correspondence.specs.Designs.{design};
@@ -115,7 +116,7 @@ fn meet(ready: &mut Ready, block: Block)
 
 // Holds the earliest images of a base block ready that come after the last block.
 fn meet_images(ready: &mut Ready, images: &Images, base: &Block, last: &Option<Block>)
-    requires block { IsBlock (point_count images.now) base.now }
+    requires block { IsSet (point_count images.now) base.now }
     requires sorted { IsSorted before ready.old.items }
     ensures sorted { IsSorted before ready.new.items }
     ensures inside { (z : List ℕ) → In ready.new.items z → In ready.old.items z ⊎ IsImageAfter images.now base.now last.now z }

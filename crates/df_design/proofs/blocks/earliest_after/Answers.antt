@@ -1,6 +1,6 @@
 use Rattle.std.proofs.Common.{◌≡◌, ◌∷◌, ◌⊎◌, ℕ, List, refl, inl, sym, subst}
 use Rattle.df_lists.specs.Membership.{In}
-use Rattle.df_subsets.specs.Blocks.{IsBlock}
+use Rattle.df_lists.specs.NumberSets.{IsSet}
 use Rattle.df_maps.specs.FullMaps.{point_count}
 use Rattle.df_maps.specs.Laws.{AreGroup}
 use Rattle.df_kramer_mesner.specs.OrbitSystems.{maps_of_problem}
@@ -14,7 +14,7 @@ meet_images-requires-clause-block c =
     let A = subst AreGroup c.requires.maps c.count.ensures.maps in
     let base = c.in-Some.base in
     let chosen = c.loop-base.invariant.inside base (subst (λ (l : List (List ℕ)). In l base) (sym c.in-Some.ensures.block) (inl refl)) in
-    subst (λ M. IsBlock (point_count M) base) (sym c.requires.maps) (c.blocks_are_sets.ensures.from_set (point_count (maps_of_problem s)) base (base_set s A c.args.chosen.now base chosen))
+    subst (λ M. IsSet (point_count M) base) (sym c.requires.maps) (base_set s A c.args.chosen.now base chosen)
 
 pub loop-base-preserved : goal.loop-base-preserved
 loop-base-preserved c =
