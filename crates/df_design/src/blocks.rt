@@ -18,7 +18,7 @@ use crate::reps::Reps;
 use arrayvec::ArrayVec;
 use df_matrix::OrbitMatrix;
 use df_orbits::Images;
-use df_subsets::{Block, blocks_are_ordered, blocks_are_sets, candidates_are_all};
+use df_subsets::{Block, blocks_are_ordered, candidates_are_all};
 use std::marker::Model;
 
 /// The most blocks that are held ready.
@@ -145,7 +145,6 @@ fn earliest_after<'d>(
 {
     candidates_are_all();
     blocks_are_ordered();
-    blocks_are_sets();
     images.count();
     let mut ready = ArrayVec::new();
     let mut reps = Reps::new(matrix, chosen);
