@@ -1,15 +1,14 @@
 -- The rows that are barred along a column, and the levels that they make.
-use Rattle.std.proofs.Common.{◌≡◌, ◌≢◌, ℕ, suc, zero, ◌+◌, ◌-◌, ◌<◌, ◌≤◌, Bool, true, false, ◌||◌, eqb, List, [], ◌∷◌, length, get_or, take, drop, reverse, refl, sym, ap, ◌∙◌, arith, inl, inr, eqb-true, eq-eqb, ne_eqb}
+use Rattle.std.proofs.Common.{◌≡◌, ◌≢◌, ℕ, ◌+◌, ◌<◌, ◌≤◌, true, false, ◌||◌, List, [], ◌∷◌, length, get_or, take, drop, refl, sym, ap, ◌∙◌, arith, inl, inr, ne_eqb}
 use Rattle.std.proofs.lemmas.Bool.{cases_eq, cases_Bool}
 use Rattle.df_walk.specs.declared.Cell.{Cell}
 use Rattle.df_walk.specs.declared.Rules.{Rules}
-use Rattle.df_walk.specs.Systems.{System, AreCells, entries, entry, entry_of, cells, target}
-use Rattle.df_walk.proofs.EntryLaws.{entry_is}
+use Rattle.df_walk.specs.Systems.{System, AreCells, entry_of, cells, target}
 use Rattle.df_system.specs.declared.counted_rows.PathRow.{PathRow}
-use Rattle.df_system.specs.declared.path_rows.Turn.TheVariants.{Take, TakeBack}
+use Rattle.df_system.specs.declared.path_rows.Turn.TheVariants.{Take}
 use Rattle.df_system.specs.BarredColumns.{Barring, bars_row, with_row, IsBarredBy}
 use Rattle.df_system.specs.PathRows.{taken_in, IsBarred}
-use Rattle.df_system.specs.CountedRows.{row_at, turned, RowsAlong, AreRows, AllFilled, AreBarring, HadTargets, HaveTargets}
+use Rattle.df_system.specs.CountedRows.{row_at, RowsAlong, AreRows, AllFilled, AreBarring, HadTargets, HaveTargets}
 use Rattle.df_system.proofs.SortedCells.{blank, entry_in_order}
 use Rattle.df_system.proofs.LinkedDivisors.{absent_before, entry_here, entry_elsewhere}
 use Rattle.df_system.proofs.BarredTrails.{length-with_row, drop-with_row, with_row_bars}

@@ -85,8 +85,8 @@ reached_start {s} {width} {never} {rows} {columns} {deadlines} rows_is columns_i
       let es = entries s row in
       let long : length es ≡ columns = length-entries s row ∙ sym columns_is in
       let none : total (drop columns es) ≡ 0 = ap (λ k. total (drop k es)) (sym long) ∙ total_drop_end es in
-      let one : get_or (replicate rows 1) row 0 ≡ 1 = get_or-replicate {A = ℕ} rows row 1 0 (omega arith) in
       let met : get_or deadlines (row * width + 0) 0 ≡ never = ap (λ k. get_or deadlines k 0) (let x : row * width + 0 ≡ row * width = omega arith in x) ∙ f.met row (omega arith) in
+      let one : get_or (replicate rows 1) row 0 ≡ 1 = get_or-replicate {A = ℕ} rows row 1 0 (omega arith) in
       rw one (record {
         within = omega arith;
         low = omega arith;

@@ -233,10 +233,17 @@ fn take_all<L: Ledger>(
 }
 
 /// The columns of one mask, on a system that is the plain one.
-fn try_mask(rt: &impl Abort, alloc: Global, system: &System, plain: Plain, rules: Rules, mask: u32) {
-    assert!(rt;
-        system.rows() == plain.rows && system.columns() == plain.columns && plain.columns < 32
-    );
+fn try_mask(
+    rt: &impl Abort,
+    alloc: Global,
+    system: &System,
+    plain: Plain,
+    rules: Rules,
+    mask: u32,
+) {
+    assert!(rt; system.rows() == plain.rows);
+    assert!(rt; system.columns() == plain.columns);
+    assert!(rt; plain.columns < 32);
     let mut rows = PathRows::new(alloc, system, rules).expect(rt, "memory");
     take_all::<Brand>(rt, &mut rows, plain, rules, mask, Blank::new(1));
 }
