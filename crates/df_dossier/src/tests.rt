@@ -153,22 +153,8 @@ fn lines_are_written(rt: HostRuntime) {
     put_entry(&mut buf, Entry::Branch(0));
     assert_eq!(rt; buf.as_slice(), b"branch 0".as_slice());
     let mut buf = LineBuf::new();
-    put_entry(&mut buf, Entry::Residue { row: 1, divisor: 2 });
-    assert_eq!(rt; buf.as_slice(), b"residue 1 2".as_slice());
-    let mut buf = LineBuf::new();
-    put_end(&mut buf, true, 2, 4);
-    assert_eq!(rt;
-        buf.as_slice(),
-        b"end finished designs 2 nodes 4".as_slice()
-    );
-    let mut buf = LineBuf::new();
-    put_end(&mut buf, false, 1, 3);
-    put_path_start(&mut buf, 2);
-    put_path_column(&mut buf, 1);
-    assert_eq!(rt;
-        buf.as_slice(),
-        b"end spent designs 1 nodes 3 next 2 1".as_slice()
-    );
+    put_entry(&mut buf, Entry::Settled);
+    assert_eq!(rt; buf.as_slice(), b"settled".as_slice());
     let mut buf = LineBuf::new();
     put_design_start(&mut buf);
     assert_eq!(rt; buf.as_slice(), b"design".as_slice());
