@@ -4,3 +4,4 @@ pub mod Paths
 pub mod Designs
 pub mod Reads
 pub mod RoundTrips
+pub mod Judging

@@ -1,11 +1,12 @@
 //! Dossiers, which a search writes and others read: their lines, each both ways.
 //! It stands on df_io for lines, tokens and numbers, on df_walk for entries and paths as words, on df_system for the type
 //! of paths, and on df_lang for the texts of blocks.
-//! The crates above write lines by the `put_` calls and read them by `read_entry` and `read_path`; clauses cite
-//! `specs/Entries`, `specs/Paths` and `specs/Designs`. That what is written is read back are the laws `.._read_back`.
+//! The crates above write lines by the `put_` calls and read them by `LineJudge`, `read_entry` and `read_path`; clauses
+//! cite `specs/Entries`, `specs/Paths`, `specs/Designs` and `specs/Judging`. That what is written is read back are the laws `.._read_back`.
 #![tactic(auto)]
 
 mod entries;
+mod judge;
 mod laws;
 mod numbers;
 mod paths;
@@ -13,6 +14,7 @@ mod put;
 
 pub use df_walk::{CutRow, Entry, Rules};
 pub use entries::{MOST_ROWS, MOST_WEIGHT, read_entry};
+pub use judge::{DossierFault, LineJudge, Piece};
 pub use laws::{entries_are_read_back, paths_are_read_back};
 pub use numbers::{MOST_COUNT, MOST_NUMBER};
 pub use paths::{PathRead, read_path};

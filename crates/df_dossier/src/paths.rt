@@ -66,7 +66,7 @@ fn places(alloc: Global, tokens: &mut Tokens<'_>) -> Result<Vec<u32>, PathRead>
 }
 
 // Passes a word.
-fn past(tokens: &mut Tokens<'_>, word: &[u8]) -> Option<()>
+pub(crate) fn past(tokens: &mut Tokens<'_>, word: &[u8]) -> Option<()>
     ensures { past_of word.now (left tokens.old) ≡ option_map (λ _. left tokens.new) result }
 {
     if tokens.next_token()? == word {

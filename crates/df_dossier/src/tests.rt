@@ -1,6 +1,7 @@
 // What no clause says: that memory suffices; and lines with what they say, worked out by hand.
 use super::*;
-use df_io::LineBuf;
+use df_io::{LineBuf, Lines};
+use std::alloc::{AllocError, Global};
 use std::test::Fail;
 
 fn is_entry(line: &[u8], rules: Rules) -> bool {
@@ -158,4 +159,104 @@ fn lines_are_written(rt: HostRuntime) {
     let mut buf = LineBuf::new();
     put_design_start(&mut buf);
     assert_eq!(rt; buf.as_slice(), b"design".as_slice());
+}
+
+// A letter for what a line is.
+fn letter(piece: Option<Piece>) -> u8 {
+    match piece {
+        None => b'-',
+        Some(
+            Piece::Head {
+                rules: Rules::Plain,
+            },
+        ) => b'1',
+        Some(
+            Piece::Head {
+                rules: Rules::Divisor,
+            },
+        ) => b'2',
+        Some(Piece::SourceCount(_)) => b'c',
+        Some(Piece::SourceLine) => b's',
+        Some(Piece::RunFrom) => b'f',
+        Some(Piece::Entry(_)) => b'e',
+        Some(Piece::Design) => b'd',
+        Some(Piece::End { finished: true, .. }) => b'F',
+        Some(
+            Piece::End {
+                finished: false,
+                ..
+            },
+        ) => b'S',
+        Some(Piece::Bad(DossierFault::BadHead)) => b'H',
+        Some(Piece::Bad(DossierFault::BadEntry)) => b'E',
+        Some(Piece::Bad(DossierFault::BadEnd)) => b'N',
+        Some(Piece::Bad(_)) => b'?',
+        Some(Piece::Done) => b'.',
+    }
+}
+
+// The letters of the lines of a text, and of its end.
+fn letters(alloc: Global, text: &[u8]) -> Result<Vec<u8>, AllocError> {
+    let mut judge = LineJudge::new();
+    let mut lines = Lines::new(text);
+    let mut letters = Vec::new(alloc);
+    for _ in 0..100u32 {
+        let Some(line) = lines.next() else {
+            break;
+        };
+        if line.start <= line.end && line.end <= text.len() {
+            letters.push(letter(judge.line(&text[line.start..line.end])))?;
+        }
+    }
+    letters.push(letter(Some(judge.end())))?;
+    Ok(letters)
+}
+
+#[test]
+fn lines_are_judged(rt: HostRuntime) -> Result<(), Fail> {
+    for (text, read) in [
+        (b"".as_slice(), b"H".as_slice()),
+        (
+            b"dossier 1\nsource 1\ng\nfrom 0\nend finished designs 0 nodes 0\n",
+            b"1csfF.",
+        ),
+        (
+            b"\n# x\ndossier 2 # y\r\n\nsource 02\n\n# g\n\nfrom x\nresidue 1 2\n",
+            b"--2-css-feN",
+        ),
+        (
+            b"dossier 1\nsource 1\ng\nfrom 0\nresidue 1 2\nsettled\n",
+            b"1csfEEE",
+        ),
+        (
+            b"dossier 2\nsource 1\ng\nfrom 0\nsettled\ndesign x\nend spent designs 1 nodes 1 next\ndossier 1\n",
+            b"2csfedS1H",
+        ),
+        (b"dossier 01\n\n", b"HHH"),
+        (b"dossier 3\n", b"HH"),
+        (b"dossier 1 1\n", b"HH"),
+        (b"dossier 1\nsource 0\n", b"1HH"),
+        (b"dossier 1\nsource 2\ng\n", b"1csH"),
+        (b"dossier 1\nsource 1\ng\nbranch 0\n", b"1csHH"),
+        (
+            b"dossier 1\nsource 1\ng\nfrom 0\nend finished designs 0\n",
+            b"1csfNN",
+        ),
+        (
+            b"dossier 1\nsource 1\ng\nfrom 0\nend finished designs 0 nodes 0 next 0",
+            b"1csfNN",
+        ),
+        (
+            b"dossier 1\nsource 1\ng\nfrom 0\nend spent designs 0 nodes 0",
+            b"1csfNN",
+        ),
+        (
+            b"dossier 1\nsource 1\ng\nfrom 0\nend finished designs 0 nodes 0\nbranch 0",
+            b"1csfFHH",
+        ),
+    ] {
+        let letters = letters(rt.alloc(), text)?;
+        assert_eq!(rt; letters.as_slice(), read);
+    }
+    Ok(())
 }
