@@ -13,7 +13,7 @@ use df_lang::{Problem, put_block};
 use df_subsets::Block;
 use df_walk::{CutRow, Entry};
 
-/// Appends the line of an entry. The buffer has room for it; `entry_text_is_short` says how much is enough.
+/// Appends the line of an entry. The buffer has room for it.
 pub fn put_entry(buf: &mut LineBuf, entry: Entry)
     requires { array_vec_len buf.old + length (entry_text entry) ≤ 1024 }
     ensures text { buf.new.items ≡ buf.old.items ++ entry_text entry }
