@@ -1,6 +1,8 @@
-// What the rows of a path have, where its yes columns alone are decisions: a no changes no need, and takes nothing here.
+// What the rows of a path have, where its yes columns alone are decisions: a no changes no need, and costs nothing here.
 // Taking a column and giving it back go along its cells, and write each row's sum and deadline together: that is one step.
-// Deadlines tell how far a path may go on with no's: up to the least of them.
+// The least deadline tells how far a path may go on with no's; the columns of rows that have their targets are barred for it.
+// Deadlines and barred columns are made from the entries without the counter, as divisors are: what counts is each cell that a
+// decision changes and each that a column is tried by.
 ghost use Rattle.std.specs.Prelude.{◌≡◌, ℕ, ◌+◌, ◌<◌, ◌≤◌, [], ◌∷◌, length, drop, true, false, is_some, Some, None, IsNone, IfOk, IfSome};
 ghost use Rattle.std.specs.List.{list_all};
 ghost use Rattle.df_walk.specs.Systems.{AreCells, rows_of, cells, entries, target};
@@ -11,7 +13,7 @@ ghost use Rattle.df_system.specs.CountedRows.{AreRows, HaveDeadlines, RowsAlong,
 ghost use Rattle.df_walk.specs.declared.Rules.TheVariants.{Divisor};
 
 use crate::OutOfMemory;
-use crate::barred::BarredColumns;
+use crate::barred::{BarredColumns, COLUMNS_A_WORD};
 use crate::counted_rows::{CountedRows, PathRow};
 use crate::deadlines::Deadlines;
 use crate::limits::ROW_LIMIT;
@@ -169,7 +171,8 @@ fn bar_along(barred: &mut BarredColumns<'_>, rows: &CountedRows, column: &[Cell]
 }
 
 impl<'m> PathRows<'m> {
-    /// No column is taken. It takes the room for all rows, for as many yes columns as there are columns, and for the deadlines. It counts no step.
+    /// No column is taken. It takes the room for all rows, for as many yes columns as there are columns, for deadlines and for barred columns.
+    /// It counts no step.
     pub fn new(alloc: Global, system: &'m System, rules: Rules) -> Result<PathRows<'m>, OutOfMemory>
         ensures { IfOk result (λ p. p ≡ record { system = system.now; rules = rules; chosen = [] }) }
     {
@@ -270,8 +273,9 @@ impl<'m> PathRows<'m> {
         (row.target as u64).checked_sub(row.taken)
     }
 
-    /// The least number of columns that a path with these yes columns may have so that a row rules it out, where no row does so before: one that is over, one whose need is above what its later entries add up to, and by the divisor's rules one with a residue.
-    /// One past the columns where none does. It looks at each row.
+    /// The least number of columns that a path with these yes columns may have so that a row rules it out, and one past the columns where none does.
+    /// A row does so that is over, or whose need is above what its later entries add up to, or by the divisor's rules that has a residue.
+    /// From the limit on each path with further no's is ruled out. It looks at each row.
     pub fn limit(&self) -> u32
         ensures { IsLimit self.now result }
     {
@@ -381,12 +385,17 @@ impl<'m> PathRows<'m> {
         true
     }
 
-    /// A number of columns from this one on that are barred, of those that share its word of 64 in `BarredColumns`. 0 says nothing. It counts no step.
+    /// A number of columns from this one on that are barred by rows that need nothing, of those that share its word in `BarredColumns`.
+    /// 0 says nothing. It counts no step.
     pub fn run(&self, column: u32) -> u32
         requires { column < length self.now.system.columns }
         ensures barred { (k : ℕ) → k < result → IsBarred self.now (column + k) }
         ensures inside { column + result ≤ length self.now.system.columns }
+        ensures few { result ≤ COLUMNS_A_WORD }
     {
         self.barred.run(column)
     }
 }
+
+#[cfg(test)]
+mod tests;

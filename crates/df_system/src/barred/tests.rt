@@ -106,17 +106,17 @@ fn try_rows(rt: &impl Abort, barred: &mut BarredColumns, plain: Plain, row: u32,
 #[test]
 fn runs_are_those_of_a_plain_computation(rt: HostRuntime) {
     let alloc = rt.alloc();
-    let mut seed = 0;
+    let mut seed: u32 = 0;
     for columns in [5, 63, 64, 65, 127, 128, 129, 200] {
         for rows in 1..6 {
-            seed = u32::wrapping_add(seed, 1);
+            seed = seed.wrapping_add(1);
             let plain = Plain {
                 seed,
                 rows,
                 columns,
             };
             let system = plain.system(&rt, alloc);
-            assert!(rt; system.rows() == rows && system.columns() == columns);
+            assert!(rt; system.rows() == rows && system.columns() == columns && rows <= columns);
             let mut barred = BarredColumns::new(alloc, &system).expect(&rt, "memory");
             try_rows(&rt, &mut barred, plain, 0, 0);
         }
