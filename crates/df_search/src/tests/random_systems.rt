@@ -398,7 +398,7 @@ fn searches_are_plain_walks(rt: HostRuntime) {
 #[test]
 fn searches_with_large_targets_are_plain_walks(rt: HostRuntime) {
     let alloc = rt.alloc();
-    let mut numbers = Numbers { state: 5 };
+    let mut numbers = Numbers { state: 18 };
     let mut seen = Seen::none();
     for _ in 0..6 {
         let plain = make_system(&rt, alloc, 1100000, &mut numbers);
@@ -409,5 +409,5 @@ fn searches_with_large_targets_are_plain_walks(rt: HostRuntime) {
     assert!(rt; seen.systems >= 3, "{} systems", seen.systems);
     assert!(rt; seen.solutions >= 3, "{} solutions", seen.solutions);
     assert!(rt; seen.leaves >= 3, "{} leaves", seen.leaves);
-    assert!(rt; seen.residues >= 1, "{} residues", seen.residues);
+    assert!(rt; seen.residues >= 3, "{} residues", seen.residues);
 }
