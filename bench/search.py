@@ -1,19 +1,38 @@
 #!/usr/bin/env python3
-"""Measures how long a search takes for each node and for each cell that it changes, and prints a table of nanoseconds.
+"""Measures how long a search takes for each node and for each cell that it changes, and prints tables of nanoseconds.
 
-search.py [PROGRAM]    PROGRAM is built by the command rt in a folder of its own where it isn't given
+search.py [--program PROGRAM] [--race RACE] [--maker MAKER] [--beside OTHER] [random | matrices]
 
-The systems are made by numbers that look random: each column has the same number of cells, with entries from 1 to 3 that
-are multiplied by a factor in the second half of the columns, and each target is half the sum of its row. Of each the first
+PROGRAM and RACE are built by the command rt in folders of their own where they aren't given. With no last word both tables are made.
+
+`random`: the systems are made by numbers that look random: each column has the same number of cells, with entries from 1 to 3
+that are multiplied by a factor in the second half of the columns, and each target is half the sum of its row. Of each the first
 million nodes are walked, by both rules, by `advance` and by `next`, and beside them by plain loops in C where gcc is there.
 The seconds of a search are those of a run less those of a run with no budget, which makes the system alone. The C program
-prints the number of nodes, entries and changed cells, which are those of the search too, and measures itself.
+prints the number of nodes, entries and changed cells, which are those of the walk entry by entry, and measures itself.
+
+`matrices`: orbit matrices of difference families are searched by `next`, by the rules with divisors. MAKER prints them by its
+command `matrix`; it is crates/df_main/out/df_main where it isn't given. RACE reads a system and measures the search itself, with
+its making: the least of three runs. OTHER is another program with a command `solve`, which is timed as a whole beside it.
 """
-import pathlib, shutil, subprocess, sys, tempfile, time
+import argparse, pathlib, shutil, subprocess, sys, tempfile, time
 
 import crates
 
 CRATES = ["df_steps", "df_walk", "df_system", "df_search"]
+
+# the lines of a source, and the most nodes that are walked: 0 for all
+MATRICES = (
+    (("group 37", "k 3", "lambda 1"), 0),
+    (("group 39", "k 3", "lambda 1"), 0),
+    (("group 43", "k 3", "lambda 1"), 100000000),
+    (("group 37", "k 4", "lambda 1"), 0),
+    (("group 40", "k 4", "lambda 1"), 0),
+    (("group 10", "shift none", "k 4", "lambda 2"), 20000000),
+    (("group 13", "shift none", "k 3", "lambda 2"), 20000000),
+    (("group 14", "shift none", "k 4", "lambda 3"), 20000000),
+    (("group 19", "shift none", "k 3", "lambda 1"), 20000000),
+)
 
 SYSTEMS = (
     # rows, columns, cells of a column, factor
@@ -200,6 +219,129 @@ ghosts-next g a = record { name = a.blank.name; parts = a.blank.parts }
 ''',
 }
 
+RACE = '''//! Walks a system on standard input, with a budget where one is given, and prints how many solutions and nodes it passed, and how long that took.
+//! The input is numbers: the number of rows, a target for each, and the entries, column after column.
+#![tactic(auto)]
+
+ghost use Rattle.std.specs.Prelude.{◌≡◌, ◌<◌};
+
+use df_io::{StdSource, read_all};
+use df_search::{Rules, Search, Turn};
+use df_steps::Steps;
+use df_system::{MOST_ENTRIES, ROW_LIMIT, System};
+use std::alloc::{AllocError, Global};
+use std::io;
+use std::marker::Brand;
+use std::rt::Env;
+use std::env;
+use std::sync::ledger::{Blank, Ledger};
+use std::time::Instant;
+
+const BUDGET: u64 = 1000000000000;
+
+// Walks on while solutions come.
+fn count<L: Ledger>(search: &mut Search<'_>, budget: &mut u64, steps: &mut Steps<L>) -> u64 {
+    let mut solutions: u64 = 0;
+    for _ in 0..BUDGET {
+        match search.next(budget, steps) {
+            Turn::Design => solutions = solutions.wrapping_add(1),
+            _ => return solutions,
+        }
+    }
+    solutions
+}
+
+fn counted<L: Ledger>(alloc: Global, system: &System, budget: &mut u64, blank: Blank) -> Option<u64>
+    requires name { blank.name ≡ L.name }
+    requires parts { blank.parts ≡ L.parts }
+    requires some { 0 < blank.parts }
+{
+    let mut steps = Steps::<L>::new(blank);
+    let mut search = Search::new(alloc, system, Rules::Divisor, &mut steps).ok()?;
+    Some(count(&mut search, budget, &mut steps))
+}
+
+fn budget_of(rt: &(impl Env + AllocGlobal)) -> u64 {
+    let Ok(mut words) = env::args(rt) else {
+        return BUDGET;
+    };
+    match words.nth(1) {
+        Some(word) => word.as_str().parse::<u64>().unwrap_or(BUDGET),
+        None => BUDGET,
+    }
+}
+
+fn numbers(alloc: Global, bytes: &[u8]) -> Result<Vec<u32>, AllocError> {
+    let mut found = Vec::new(alloc);
+    let mut number: u32 = 0;
+    let mut inside = false;
+    for byte in bytes {
+        if *byte >= 48 && *byte < 58 {
+            number = number.wrapping_mul(10).wrapping_add((*byte - 48) as u32);
+            inside = true;
+        } else if inside {
+            found.push(number)?;
+            number = 0;
+            inside = false;
+        }
+    }
+    Ok(found)
+}
+
+fn system_of(alloc: Global, numbers: &[u32]) -> Option<System> {
+    if numbers.is_empty() {
+        return None;
+    }
+    let rows = numbers[0] as usize;
+    if rows == 0 || rows >= numbers.len() {
+        return None;
+    }
+    let targets = Vec::from_slice(alloc, &numbers[1..rows + 1]).ok()?;
+    let entries = Vec::from_slice(alloc, &numbers[rows + 1..]).ok()?;
+    if targets.is_empty()
+        || targets.len() >= ROW_LIMIT
+        || entries.len() % targets.len() != 0
+        || entries.len() > MOST_ENTRIES
+    {
+        return None;
+    }
+    System::new(alloc, targets, entries).ok()
+}
+
+fn main(rt: HostRuntime) -> io::Result<()> {
+    let mut input = StdSource::new(rt.reader());
+    let Ok(bytes) = read_all(rt.alloc(), &mut input, 268435456) else {
+        return Ok(());
+    };
+    let Ok(numbers) = numbers(rt.alloc(), &bytes) else {
+        return Ok(());
+    };
+    let Some(system) = system_of(rt.alloc(), &numbers) else {
+        println!(rt; "no system")?;
+        return Ok(());
+    };
+    let start = budget_of(&rt);
+    let mut budget = start;
+    let before = Instant::now(&rt)?;
+    let Some(solutions) = counted::<Brand>(rt.alloc(), &system, &mut budget, Blank::new(1)) else {
+        println!(rt; "no memory")?;
+        return Ok(());
+    };
+    let took = before.elapsed(&rt)?;
+    let nodes = start.wrapping_sub(budget);
+    println!(rt; "rows {} columns {} solutions {solutions} nodes {nodes} us {}", system.rows(), system.columns(), took.as_micros())?;
+    Ok(())
+}
+'''
+
+RACE_PROOFS = {
+    "main": '''use Rattle.race.proofs.main.Given as goal
+
+abbrev pub ghosts-counted : goal.ghosts-counted
+ghosts-counted g a = record { name = a.blank.name; parts = a.blank.parts }
+''',
+}
+
 LOOPS = r'''// Walks the first nodes of a system by plain loops: walk ROWS COLUMNS CELLS FACTOR RULES BUDGET.
 #include <stdint.h>
 #include <stdio.h>
@@ -312,15 +454,15 @@ int main(int argc, char **argv) {
 '''
 
 
-def build(folder):
-    own = crates.copy(folder, "searches", CRATES)
-    (own / "src" / "main.rt").write_text(PROGRAM)
-    for name, text in PROOFS.items():
-        (own / "proofs" / name).mkdir(parents=True)
-        (own / "proofs" / name / "Invariants.antt").write_text(text)
+def build(folder, name, names, text, proofs, word):
+    own = crates.copy(folder, name, names)
+    (own / "src" / "main.rt").write_text(text)
+    for function, proof in proofs.items():
+        (own / "proofs" / function).mkdir(parents=True)
+        (own / "proofs" / function / "Invariants.antt").write_text(proof)
     print("proving and building; this takes some minutes", file=sys.stderr)
-    subprocess.run(["rt", "run", "--", "0"], cwd=own, check=True, stdout=sys.stderr)
-    return own / "out" / "searches"
+    subprocess.run(["rt", "run", "--", word], cwd=own, check=True, stdin=subprocess.DEVNULL, stdout=sys.stderr)
+    return own / "out" / name
 
 
 def build_loops(folder):
@@ -364,14 +506,56 @@ def table(program, plain):
                 print(f"{words} {name:>8} {taken:>8.3f} {taken / nodes * 1e9:>8.1f} {cells}", flush=True)
 
 
+def system_of(maker, lines):
+    """A system as numbers: how many rows, their targets, and the entries of the kept orbits, one after another."""
+    source = ("\n".join(lines) + "\n").encode()
+    text = subprocess.run([maker, "matrix"], input=source, check=True, capture_output=True).stdout.decode()
+    targets, columns = [], []
+    for line in text.splitlines():
+        words = line.split()
+        if words[0] == "row":
+            targets.append(words[-1])
+        elif words[0] == "orbit" and words[-2] == "column":
+            columns.append(words[words.index("entries") + 1 : -2])
+    return len(targets), len(columns), " ".join([str(len(targets)), *targets, *sum(columns, [])]) + "\n"
+
+
+def beside(other, lines, budget):
+    """The seconds of the other program's `solve`, with all that it prints."""
+    words = [other, "solve", "--budget", str(budget or 10**15)]
+    start = time.perf_counter()
+    subprocess.run(words, input=("\n".join(lines) + "\n").encode(), capture_output=True)
+    return time.perf_counter() - start
+
+
+def matrices(race, maker, other):
+    print(f"{'problem':44} {'rows':>5} {'columns':>7} {'solutions':>9} {'nodes':>10} {'seconds':>8} {'ns/node':>8} {'beside':>8}")
+    for lines, budget in MATRICES:
+        rows, columns, numbers = system_of(maker, lines)
+        words = [race] + ([str(budget)] if budget else [])
+        runs = [subprocess.run(words, input=numbers.encode(), check=True, capture_output=True).stdout.split() for _ in range(3)]
+        solutions, nodes = int(runs[0][5]), int(runs[0][7])
+        taken = min(int(run[9]) for run in runs) / 1e6
+        name = " / ".join(lines)
+        also = f"{min(beside(other, lines, budget) for _ in range(3)):>8.3f}" if other else f"{'':>8}"
+        print(f"{name:44} {rows:5} {columns:7} {solutions:9} {nodes:10} {taken:8.3f} {taken / max(nodes, 1) * 1e9:8.2f} {also}", flush=True)
+
+
 def main():
+    parser = argparse.ArgumentParser()
+    for word in ("program", "race", "maker", "beside"):
+        parser.add_argument(f"--{word}", type=pathlib.Path)
+    parser.add_argument("table", nargs="?", choices=("random", "matrices"))
+    given = parser.parse_args()
     with tempfile.TemporaryDirectory() as name:
         folder = pathlib.Path(name)
-        plain = build_loops(folder)
-        if len(sys.argv) > 1:
-            table(pathlib.Path(sys.argv[1]).resolve(), plain)
-        else:
-            table(build(folder), plain)
+        if given.table != "matrices":
+            program = given.program or build(folder / "random", "searches", CRATES, PROGRAM, PROOFS, "0")
+            table(program.resolve(), build_loops(folder))
+        if given.table != "random":
+            maker = given.maker or crates.TOP / "crates/df_main/out/df_main"
+            race = given.race or build(folder / "race", "race", ["df_io", *CRATES], RACE, RACE_PROOFS, "0")
+            matrices(race.resolve(), maker.resolve(), given.beside and given.beside.resolve())
 
 
 if __name__ == "__main__":

@@ -1,8 +1,12 @@
 pub mod IncreasingLists
-pub mod DivisorStarts
 pub mod StandingPaths
-pub mod HeldNeeds
+pub mod YesColumns
+pub mod LeapPaths
+pub mod JudgedPaths
+pub mod HeldSteps
 pub mod SearchSteps
 pub mod PassedSteps
 pub mod EventAnswers
 pub mod FollowedPaths
+pub mod LeapSteps
+pub mod PassedLeaps

@@ -38,7 +38,7 @@ pub passed_count : {q new : Searching} {budget after : ℕ} {found : List (List 
 passed_count {q} {new} h = let e = ap length h.joined in omega (arith, length-append h.passed new.rest)
 
 -- one more entry
-pass_one : {q mid : Searching} {budget b : ℕ} (x : Step) (new : Searching) (after : ℕ) (found : List (List Bool)) → Passes q budget mid b [] → mid.rest ≡ x ∷ new.rest → new.system ≡ mid.system → new.rules ≡ mid.rules → solutions_in q.system (x ∷ []) ≡ found → b ≡ length (nodes_in (x ∷ [])) + after → Passes q budget new after found
+pub pass_one : {q mid : Searching} {budget b : ℕ} (x : Step) (new : Searching) (after : ℕ) (found : List (List Bool)) → Passes q budget mid b [] → mid.rest ≡ x ∷ new.rest → new.system ≡ mid.system → new.rules ≡ mid.rules → solutions_in q.system (x ∷ []) ≡ found → b ≡ length (nodes_in (x ∷ [])) + after → Passes q budget new after found
 pass_one {q} {mid} {budget} {b} x new after found h is system rules found_is nodes =
     let e = ap length (filter_map-append node_of h.passed (x ∷ [])) in
     passes_of (h.passed ++ x ∷ []) (h.joined ∙ ap (λ l. h.passed ++ l) is ∙ sym (append_assoc h.passed (x ∷ []) new.rest)) (filter_map-append (solution_of q.system) h.passed (x ∷ []) ∙ rw (h.solutions, found_is) refl) (omega (arith, h.nodes, length-append (nodes_in h.passed) (nodes_in (x ∷ [])))) (system ∙ h.system) (rules ∙ h.rules)

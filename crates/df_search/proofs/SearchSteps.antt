@@ -18,7 +18,7 @@ use Rattle.df_search.specs.declared.search.State.TheVariants.{Here, Below, Past,
 use Rattle.df_search.specs.declared.held_path.Verdict.{Verdict}
 use Rattle.df_search.specs.declared.held_path.Verdict.TheVariants as verdict
 use Rattle.df_search.specs.HeldPaths.{Held, TurnsTo, as_entry}
-use Rattle.df_search.specs.Searches.{Searching, rest_of, chosen_of, search_of, next_path_of, Answers, AdvancesBy, Advances, stopped, IsReady, IsFit, IsOnWalk}
+use Rattle.df_search.specs.Searches.{Searching, rest_of, chosen_of, search_of, next_path_of, Answers, AdvancesBy, Advances, stopped, ended, place_of, IsReady, IsFit, IsOnWalk}
 
 -- what is left goes on at the next path
 left_is : (st : State) (rules : Rules) (s : System) (p : List Bool) → rest_of st rules s p ≡ walk_on_from rules s [] (next_path_of st p)
@@ -29,7 +29,7 @@ left_is Solved rules s p = later_walk-turned rules s [] p
 left_is Done rules s p = refl
 
 -- the walk comes by the path that is one column longer, where it branches
-visited_more : (rules : Rules) (s : System) (before p : List Bool) (b : Bool) → IsVisitedFrom rules s before p → is_branch (entry_at rules s (before ++ p)) ≡ true → IsVisitedFrom rules s before (p ++ b ∷ [])
+pub visited_more : (rules : Rules) (s : System) (before p : List Bool) (b : Bool) → IsVisitedFrom rules s before p → is_branch (entry_at rules s (before ++ p)) ≡ true → IsVisitedFrom rules s before (p ++ b ∷ [])
 visited_more rules s before [] b v h = (rw (append-nil before) at h, tt)
 visited_more rules s before (a ∷ p) b v h = (v.0, visited_more rules s (before ++ a ∷ []) p b v.1 (rw (append_assoc before (a ∷ []) p) h))
 
@@ -75,7 +75,7 @@ came_none st rules s p q turns = go (next_path_of st p) (left_is st rules s p) t
     go None left t = (left, t.1)
     go (Some r) left t = absurd (false≢true t.0)
 
-is_branch_is : (e : Entry) → is_branch e ≡ true → (c : ℕ) × (e ≡ entry.Branch c)
+pub is_branch_is : (e : Entry) → is_branch e ≡ true → (c : ℕ) × (e ≡ entry.Branch c)
 is_branch_is (entry.Branch c) h = (c, refl)
 is_branch_is entry.Settled h = absurd (false≢true h)
 is_branch_is (entry.Over r) h = absurd (false≢true h)
@@ -92,13 +92,13 @@ ready Solved rules s p h = tt
 ready Done rules s p h = h
 
 module _ (old : Searching) (held : Held) (on : old.rest ≡ walk_on old.rules old.system held.path) (same : held.system ≡ old.system) where
-  becomes : (st : State) (more : List Step) (budget after : ℕ) (event : Event) (e : Entry) → old.rest ≡ (held.path, e) ∷ more → AdvancesBy old ((held.path, e) ∷ more) budget event (search_of st old.rules (record { system = old.system; path = held.path })) after → Advances old budget event (search_of st old.rules held) after
+  becomes : (st : State) (more : List Step) (budget after : ℕ) (event : Event) (e : Entry) → old.rest ≡ (held.path, e) ∷ more → AdvancesBy old ((held.path, e) ∷ more) budget event (search_of st old.rules (record { system = old.system; rules = held.rules; path = held.path })) after → Advances old budget event (search_of st old.rules held) after
   becomes st more budget after event e left h =
-      let first : AdvancesBy old old.rest budget event (search_of st old.rules (record { system = old.system; path = held.path })) after = subst (λ l. AdvancesBy old l budget event (search_of st old.rules (record { system = old.system; path = held.path })) after) (sym left) h in
+      let first : AdvancesBy old old.rest budget event (search_of st old.rules (record { system = old.system; rules = held.rules; path = held.path })) after = subst (λ l. AdvancesBy old l budget event (search_of st old.rules (record { system = old.system; rules = held.rules; path = held.path })) after) (sym left) h in
       rw same first
 
   -- the search that stays
-  same_search : search_of Here old.rules held ≡ stopped old held.path
+  pub same_search : search_of Here old.rules held ≡ stopped old held.path
   same_search =
       let f : List Step → Searching = λ l. record { system = old.system; rules = old.rules; rest = l; path = held.path; place = Some held.path; chosen = None } in
       rw same (ap f (sym on))
@@ -128,10 +128,31 @@ module _ (old : Searching) (held : Held) (on : old.rest ≡ walk_on old.rules ol
       rw (a.1, a.2, n) (becomes Below _ (suc after) after (Branch (length held.path)) (entry.Branch (length held.path)) (on ∙ walk_on_branch old.rules old.system held.path (length held.path) (sym is)) (refl, refl, refl))
 
 -- nothing is left
-pub finishes : (old : Searching) (held : Held) (budget : ℕ) → old.rest ≡ [] → held.system ≡ old.system → held.path ≡ [] → Advances old budget Finished (search_of Done old.rules held) budget
-finishes old held budget left same none =
-    let h : AdvancesBy old old.rest budget Finished (search_of Done old.rules (record { system = old.system; path = [] })) budget = subst (λ l. AdvancesBy old l budget Finished (search_of Done old.rules (record { system = old.system; path = [] })) budget) (sym left) (refl, refl, refl) in
-    rw (same, none) h
+pub same_end : (old : Searching) (held : Held) → held.system ≡ old.system → held.path ≡ [] → search_of Done old.rules held ≡ ended old
+same_end old held same none = rw (same, none) refl
+
+-- what is left where a search may be asked for its place
+pub asked_on : (st : State) (rules : Rules) (s : System) (p : List Bool) → IsSome (place_of st p) → rest_of st rules s p ≡ walk_on rules s p
+asked_on Here rules s p h = refl
+asked_on Below rules s p h = absurd (let e = h in cc)
+asked_on Past rules s p h = absurd (let e = h in cc)
+asked_on Solved rules s p h = absurd (let e = h in cc)
+asked_on Done rules s p h = absurd (let e = h in cc)
+
+-- it may be asked at another path too, and fits it
+pub asked_again : (st : State) (p q : List Bool) → IsSome (place_of st p) → IsSome (place_of st q)
+asked_again Here p q h = refl
+asked_again Below p q h = absurd (let e = h in cc)
+asked_again Past p q h = absurd (let e = h in cc)
+asked_again Solved p q h = absurd (let e = h in cc)
+asked_again Done p q h = absurd (let e = h in cc)
+
+pub asked_fit : (st : State) (rules : Rules) (s : System) (p q : List Bool) → IsSome (place_of st p) → IsFit st rules s q
+asked_fit Here rules s p q h = tt
+asked_fit Below rules s p q h = absurd (let e = h in cc)
+asked_fit Past rules s p q h = absurd (let e = h in cc)
+asked_fit Solved rules s p q h = absurd (let e = h in cc)
+asked_fit Done rules s p q h = absurd (let e = h in cc)
 
 -- the search goes on from there
 pub on_walk : (rules : Rules) (held : Held) (v : Verdict) (budget after : ℕ) (st : State) (event : Event) → IsVisited rules held.system held.path → as_entry v (length held.path) ≡ entry_at rules held.system held.path → Answers v (length held.path) budget st event after → IsOnWalk rules held st

@@ -1,4 +1,4 @@
-pub mod Divisors
 pub mod HeldPaths
+pub mod Leaps
 pub mod Searches
 pub mod Resumptions

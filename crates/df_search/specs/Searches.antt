@@ -17,6 +17,7 @@ use Rattle.df_search.specs.declared.search.State.TheVariants.{Here, Below, Past,
 use Rattle.df_search.specs.declared.held_path.Verdict.{Verdict}
 use Rattle.df_search.specs.declared.held_path.Verdict.TheVariants as verdict
 use Rattle.df_search.specs.HeldPaths.{Held}
+use Rattle.df_search.specs.Leaps.{is_leaf}
 
 pub record Searching : Type 0 where
   pub system : System
@@ -91,6 +92,15 @@ pub record Passes (q : Searching) (budget : ℕ) (new : Searching) (after : ℕ)
   pub system : new.system ≡ q.system
   pub rules : new.rules ≡ q.rules
 
+-- the first entry is passed, at which a path is given up
+pub record PassesLeaf (q new : Searching) : Type 0 where
+  pub leaf : Entry
+  pub gives_up : is_leaf leaf ≡ true
+  pub first : q.rest ≡ (new.path, leaf) ∷ new.rest
+  pub system : new.system ≡ q.system
+  pub rules : new.rules ≡ q.rules
+  pub path : new.path ≡ q.path
+
 -- up to the first settled entry, which is passed last: its path has the solution, for which the search may be asked
 pub record Finds (q : Searching) (budget : ℕ) (new : Searching) (after : ℕ) : Type 0 where
   pub solution : List Bool
@@ -131,7 +141,7 @@ pub record Gives (q : Searching) (budget : ℕ) (e : Entry) (new : Searching) (a
   pub passes : Passes q budget new after (solutions_in q.system ((new.path, e) ∷ []))
   pub paid : budget ≡ length (nodes_in ((new.path, e) ∷ [])) + after
 
--- the answer answer_of a solution, for which the search may be asked
+-- the answer is a solution, for which the search may be asked
 pub record GivesSolution (q : Searching) (budget : ℕ) (new : Searching) (after : ℕ) : Type 0 where
   pub gives : Gives q budget entry.Settled new after
   pub finds : Finds q budget new after

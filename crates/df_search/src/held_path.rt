@@ -1,17 +1,18 @@
-// The one path that a search holds, as decisions of a `Partial` and as a list with no for all columns past it, so that a solution is read off without a copy.
-// A path grows and loses its columns at its end: each step decides or takes back one column and costs its cells.
-// What the rules say of the path is read off the partial assignment; only a residue is looked for row by row, and only from the column on from which some row can have one.
-ghost use Rattle.std.specs.Prelude.{◌≡◌, ℕ, ◌+◌, ◌-◌, ◌*◌, ◌<◌, ◌≤◌, [], ◌∷◌, ◌++◌, length, replicate, Some, None, IsNone, IfOk, IfSome, Bool, true, false};
-ghost use Rattle.df_walk.specs.Systems.{IsSystem, entries, target, widest};
-ghost use Rattle.df_walk.specs.Assignments.{taken, divisor, is_over, is_settled, has_residue, least_over, least_row, least_residue};
-ghost use Rattle.df_walk.specs.Walks.{decided, entry_at};
+// The one path that a search holds: its yes columns as they are taken in its rows, and the path as a list with no for all columns past it, so that a solution is read off without a copy.
+// A no changes no need and costs nothing. A yes and its turn to a no cost the cells of the column, and a look at each row for the limit: the number of columns from which on a path with these yes columns is given up.
+// So a look at the length says whether the path is given up, and which row gives it up is looked for only where that is to be answered.
+// A leap goes on by no's up to the limit, while the next column has an entry above its row's need: columns that are barred are passed many at a time, and each other one is tried by its cells, which are counted.
+ghost use Rattle.std.specs.Prelude.{◌≡◌, ℕ, ◌+◌, ◌-◌, ◌*◌, ◌<◌, ◌≤◌, [], ◌∷◌, ◌++◌, length, replicate, not, min, Some, None, IsNone, IfOk, IfSome, Bool, true, false};
+ghost use Rattle.df_walk.specs.Systems.{IsSystem, widest};
+ghost use Rattle.df_walk.specs.Assignments.{is_settled};
+ghost use Rattle.df_walk.specs.Walks.{decided, entry_at, is_branch};
 ghost use Rattle.df_walk.specs.Remains.{turned};
 ghost use Rattle.df_search.specs.HeldPaths.{as_entry, TurnsTo};
+ghost use Rattle.df_search.specs.Leaps.{Leaps, is_leaf};
 
 use crate::OutOfMemory;
-use crate::divisors_start::divisors_start;
 use df_steps::Steps;
-use df_system::{MOST_ENTRIES, Partial, System};
+use df_system::{MOST_ENTRIES, PathRows, System};
 use df_walk::Rules;
 use std::alloc::Global;
 use std::marker::Model;
@@ -27,45 +28,66 @@ pub(crate) enum Verdict {
     Branch,
 }
 
-/// A path of a system, with the decisions that it makes.
+/// A path of a system, by the rules of a search.
 #[derive(Drop)]
 pub(crate) struct HeldPath<'m> {
-    system: &'m System,
-    partial: Partial<'m>,
+    rows: PathRows<'m>,
     // the path, and no for the columns past it
     values: Vec<bool>,
     length: u32,
-    // no row has a divisor above 1 from a column before this one
-    start: u32,
+    // a path with these yes columns is given up where it has at least this many columns
+    limit: u32,
 }
 
 impl<'m> Model for HeldPath<'m> {
     ghost use Rattle.std.specs.Prelude.{take};
-    ghost use Rattle.df_search.specs.HeldPaths.{Held, IsHeldFrom};
+    ghost use Rattle.df_search.specs.HeldPaths.{Held, IsHeld};
 
     ghost Value = { Held };
 
-    ghost view = { λ h. record { system = h.system.now; path = take h.length h.values.items } };
+    ghost view = { λ h. record { system = h.rows.system; rules = h.rows.rules; path = take h.length h.values.items } };
 
-    ghost invariant = { λ h. IsHeldFrom h.start h.system.now h.partial h.values.items h.length };
+    ghost invariant = { λ h. IsHeld h.rows h.values.items h.length h.limit };
+}
+
+/// The lesser of two numbers.
+fn lesser(a: u32, b: u32) -> u32
+    ensures { result ≡ min a b }
+{
+    if a < b { a } else { b }
+}
+
+/// Where a leap from a column ends at the latest: this many columns on, and at the end.
+fn last_stop(start: u32, most: u64, end: u32) -> u32
+    requires { start ≤ end }
+    ensures { result ≡ min (start + most) end }
+{
+    if most < (end - start) as u64 {
+        start + most as u32
+    } else {
+        end
+    }
 }
 
 impl<'m> HeldPath<'m> {
     /// The empty path. It takes the room for as many decisions as there are columns.
-    pub(crate) fn new(alloc: Global, system: &'m System) -> Result<HeldPath<'m>, OutOfMemory>
-        ensures value { IfOk result (λ h. h ≡ record { system = system.now; path = [] }) }
+    pub(crate) fn new(
+        alloc: Global,
+        system: &'m System,
+        rules: Rules,
+    ) -> Result<HeldPath<'m>, OutOfMemory>
+        ensures value { IfOk result (λ h. h ≡ record { system = system.now; rules = rules; path = [] }) }
         ensures system { IsSystem system.now }
     {
         let columns = system.columns();
-        let partial = Partial::new(alloc, system)?;
+        let rows = PathRows::new(alloc, system, rules)?;
         let values = vec![in alloc; false; columns as usize]?;
-        let start = divisors_start(system);
+        let limit = rows.limit();
         Ok(HeldPath {
-            system,
-            partial,
+            rows,
             values,
             length: 0,
-            start,
+            limit,
         })
     }
 
@@ -98,135 +120,120 @@ impl<'m> HeldPath<'m> {
     pub(crate) fn is_settled(&self) -> bool
         ensures { result ≡ is_settled self.now.system (decided self.now.path) }
     {
-        self.partial.settled()
+        self.rows.is_met()
+    }
+
+    /// Whether the path is given up: it is over or under, or has a residue.
+    pub(crate) fn is_dead(&self) -> bool
+        ensures { result ≡ is_leaf (entry_at self.now.rules self.now.system self.now.path) }
+    {
+        self.length >= self.limit
+    }
+
+    /// Whether the path branches.
+    pub(crate) fn is_branch(&self) -> bool
+        ensures { result ≡ is_branch (entry_at self.now.rules self.now.system self.now.path) }
+    {
+        self.length < self.limit && !self.rows.is_met()
     }
 
     /// Decides the next column.
     pub(crate) fn extend<L: Ledger>(&mut self, yes: bool, steps: &mut Steps<L>)
         requires { length self.old.path < length self.old.system.columns }
-        ensures value { self.new ≡ record { system = self.old.system; path = self.old.path ++ yes ∷ [] } }
+        ensures value { self.new ≡ record self.old { path = self.old.path ++ yes ∷ [] } }
         ensures rises { steps.old ≤ steps.new }
         ensures cost { steps.new ≤ steps.old + widest self.old.system.columns }
     {
         let column = self.length;
-        if yes {
-            self.partial.take(column, steps);
-        } else {
-            self.partial.leave(column, steps);
-        }
-        self.values[column as usize] = yes;
         self.length = column + 1;
+        if yes {
+            self.rows.take(column, steps);
+            self.values[column as usize] = true;
+            self.limit = self.rows.limit();
+        }
     }
 
-    /// Takes the last decision back, and tells whether it was yes.
-    pub(crate) fn retreat<L: Ledger>(&mut self, steps: &mut Steps<L>) -> bool
-        requires { 0 < length self.old.path }
-        ensures path { self.old.path ≡ self.new.path ++ result ∷ [] }
-        ensures system { self.new.system ≡ self.old.system }
-        ensures rises { steps.old ≤ steps.new }
-        ensures cost { steps.new ≤ steps.old + widest self.old.system.columns }
-    {
-        self.partial.undo(steps);
-        self.length -= 1;
-        let last = self.length as usize;
-        let yes = self.values[last];
-        self.values[last] = false;
-        yes
-    }
-
-    /// Takes decisions back to the last yes and turns it to no. False, with the empty path, where there is no yes.
+    /// Goes back to the last yes and turns it to no. False, with the empty path, where there is no yes.
     pub(crate) fn turn<L: Ledger>(&mut self, steps: &mut Steps<L>) -> bool
         ensures turned { TurnsTo (turned self.old.path) result self.new.path }
         ensures system { self.new.system ≡ self.old.system }
+        ensures rules { self.new.rules ≡ self.old.rules }
         ensures rises { steps.old ≤ steps.new }
         ensures cost { steps.new + widest self.old.system.columns * length self.new.path ≤ steps.old + widest self.old.system.columns * (length self.old.path + 2) }
     {
-        while self.length() > 0 {
-            if self.retreat(steps) {
-                self.extend(false, steps);
-                return true;
+        let Some(column) = self.rows.undo(steps) else {
+            self.length = 0;
+            return false;
+        };
+        self.values[column as usize] = false;
+        self.length = column + 1;
+        self.limit = self.rows.limit();
+        true
+    }
+
+    /// Goes on by no's over nodes whose yes is over at once, at most this many, and says how many it passed.
+    pub(crate) fn leap<L: Ledger>(&mut self, most: u64, steps: &mut Steps<L>) -> u64
+        requires { is_branch (entry_at self.old.rules self.old.system self.old.path) ≡ true }
+        ensures most { result ≤ most }
+        ensures value { self.new ≡ record self.old { path = self.old.path ++ replicate result false } }
+        ensures leaps { Leaps self.old.rules self.old.system self.old.path result }
+        ensures rises { steps.old ≤ steps.new }
+        ensures cost { steps.new ≤ steps.old + widest self.old.system.columns * (result + 1) }
+    {
+        let start = self.length;
+        let end = lesser(self.limit, self.values.len() as u32);
+        let stop = last_stop(start, most, end);
+        let mut column = start;
+        while column < stop {
+            let run = self.rows.run(column);
+            if run > 0 {
+                column += lesser(run, stop - column);
+            } else if self.rows.fits(column, steps) {
+                break;
+            } else {
+                column += 1;
             }
         }
-        false
-    }
-
-    /// The need of a row that isn't over.
-    fn owed(&self, row: u32) -> u64
-        requires row { row < length self.now.system.targets }
-        requires not_over { is_over self.now.system (decided self.now.path) row ≡ false }
-        ensures { target self.now.system row ≡ taken (entries self.now.system row) (decided self.now.path) + result }
-    {
-        self.partial.need(row) as u64
-    }
-
-    /// The divisor of a row, where it is at least 2 and doesn't divide the row's need.
-    fn residue_in(&self, row: u32) -> Option<u32>
-        requires row { row < length self.now.system.targets }
-        requires not_over { is_over self.now.system (decided self.now.path) row ≡ false }
-        ensures none { IsNone result → has_residue self.now.system (decided self.now.path) row ≡ false }
-        ensures residue { IfSome result (λ d. has_residue self.now.system (decided self.now.path) row ≡ true) }
-        ensures divisor { IfSome result (λ d. d ≡ divisor (entries self.now.system row) (decided self.now.path)) }
-    {
-        let need = self.owed(row);
-        if need == 0 {
-            return None;
-        }
-        let divisor = self.system.divisor(row, self.length);
-        if divisor > 1 && need % divisor as u64 != 0 {
-            Some(divisor)
-        } else {
-            None
-        }
-    }
-
-    /// The least row with a residue, and its divisor.
-    fn least_residue(&self) -> Option<(u32, u32)>
-        requires { least_over self.now.system (decided self.now.path) ≡ None }
-        ensures none { IsNone result → least_row self.now.system (has_residue self.now.system (decided self.now.path)) ≡ None }
-        ensures row { IfSome result (λ found. least_row self.now.system (has_residue self.now.system (decided self.now.path)) ≡ Some found.0) }
-        ensures divisor { IfSome result (λ found. found.1 ≡ divisor (entries self.now.system found.0) (decided self.now.path)) }
-    {
-        if self.length < self.start {
-            return None;
-        }
-        for row in 0..self.system.rows() {
-            if let Some(divisor) = self.residue_in(row) {
-                return Some((row, divisor));
-            }
-        }
-        None
-    }
-
-    /// The least row with a residue, and its divisor, where the rules look for one.
-    fn residue(&self, rules: Rules) -> Option<(u32, u32)>
-        requires { least_over self.now.system (decided self.now.path) ≡ None }
-        ensures none { IsNone result → least_residue rules self.now.system (decided self.now.path) ≡ None }
-        ensures row { IfSome result (λ found. least_residue rules self.now.system (decided self.now.path) ≡ Some found.0) }
-        ensures divisor { IfSome result (λ found. found.1 ≡ divisor (entries self.now.system found.0) (decided self.now.path)) }
-    {
-        match rules {
-            Rules::Plain => None,
-            Rules::Divisor => self.least_residue(),
-        }
+        self.length = column;
+        (column - start) as u64
     }
 
     /// What the rules say of the path.
-    pub(crate) fn judge(&self, rules: Rules) -> Verdict
-        ensures { as_entry result (length self.now.path) ≡ entry_at rules self.now.system self.now.path }
+    pub(crate) fn judge(&self) -> Verdict
+        ensures { as_entry result (length self.now.path) ≡ entry_at self.now.rules self.now.system self.now.path }
     {
-        if let Some(row) = self.partial.over() {
-            return Verdict::Over(row);
+        if self.length < self.limit {
+            self.judge_live()
+        } else {
+            self.judge_rows()
         }
-        if let Some(row) = self.partial.under() {
-            return Verdict::Under(row);
-        }
-        if let Some((row, divisor)) = self.residue(rules) {
-            return Verdict::Residue(row, divisor);
-        }
-        if self.partial.settled() {
+    }
+
+    /// What the rules say of a path that isn't given up.
+    fn judge_live(&self) -> Verdict
+        requires { is_leaf (entry_at self.now.rules self.now.system self.now.path) ≡ false }
+        ensures { as_entry result (length self.now.path) ≡ entry_at self.now.rules self.now.system self.now.path }
+    {
+        if self.rows.is_met() {
             Verdict::Settled
         } else {
             Verdict::Branch
         }
+    }
+
+    /// What the rules say of the path, by a look at each row.
+    fn judge_rows(&self) -> Verdict
+        ensures { as_entry result (length self.now.path) ≡ entry_at self.now.rules self.now.system self.now.path }
+    {
+        if let Some(row) = self.rows.first_over() {
+            return Verdict::Over(row);
+        }
+        if let Some(row) = self.rows.least_short(self.length) {
+            return Verdict::Under(row);
+        }
+        if let Some((row, divisor)) = self.rows.least_residue(self.length) {
+            return Verdict::Residue(row, divisor);
+        }
+        self.judge_live()
     }
 }

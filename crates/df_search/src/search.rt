@@ -1,6 +1,6 @@
-// The walk through the tree of paths, one entry at a time, with the place in it as one path and a state: at the path, below it or past it.
+// The walk through the tree of paths, with the place in it as one path and a state: at the path, below it or past it.
 // It goes back late, with the call that asks for the next entry: so the answer's path stays held, as its solution and its place, and a call costs at most three decisions more than its path grows shorter.
-// A call passes one entry: `advance` gives it, and `next` passes them up to a solution or up to a node that the budget doesn't allow.
+// A call of `advance` passes one entry, and gives it. `next` passes entries up to a solution or up to a node that the budget doesn't allow: from a node that branches it leaps by no's over the nodes whose yes is over at once, each with that yes, and passes a path that is given up without a look for the row.
 ghost use Rattle.std.specs.Prelude.{◌≡◌, ℕ, ◌+◌, ◌-◌, ◌*◌, ◌<◌, ◌≤◌, [], ◌∷◌, ◌++◌, length, Some, None, IfOk, IfErr, IsSome, IsNone, IfSome, Bool, true, false, ◌==◌};
 ghost use Rattle.std.specs.List.{list_any};
 ghost use Rattle.std.specs.List.Sorted.{IsStrictlyIncreasing};
@@ -11,7 +11,7 @@ ghost use Rattle.df_walk.specs.Paths.{path_of, settled_before};
 ghost use Rattle.df_walk.specs.Remains.{turned};
 ghost use Rattle.df_search.specs.HeldPaths.{TurnsTo};
 ghost use Rattle.df_search.specs.Resumptions.{Resumes, Refuses, IsFirstSettled, why_of};
-ghost use Rattle.df_search.specs.Searches.{begun, StandsBefore, rest_solutions, Advances, IsAnswer, Turns, calls_of, next_path_of, IsReady, Answers};
+ghost use Rattle.df_search.specs.Searches.{begun, stopped, ended, StandsBefore, rest_solutions, Advances, IsAnswer, Passes, PassesLeaf, Turns, calls_of, next_path_of, IsReady, Answers};
 
 use crate::held_path::{HeldPath, Verdict};
 use crate::{Event, OutOfMemory, PathView, ResumeError, Turn, Why};
@@ -39,7 +39,6 @@ enum State {
 #[derive(Drop)]
 pub struct Search<'m> {
     held: HeldPath<'m>,
-    rules: Rules,
     state: State,
 }
 
@@ -48,9 +47,9 @@ impl<'m> Model for Search<'m> {
 
     ghost Value = { Searching };
 
-    ghost view = { λ s. search_of s.state s.rules s.held };
+    ghost view = { λ s. search_of s.state s.held.rules s.held };
 
-    ghost invariant = { λ s. IsOnWalk s.rules s.held s.state };
+    ghost invariant = { λ s. IsOnWalk s.held.rules s.held s.state };
 }
 
 /// Comes to the path at which the walk goes on. False, with the empty path, where it doesn't.
@@ -58,8 +57,9 @@ fn go_on<L: Ledger>(state: State, held: &mut HeldPath<'_>, steps: &mut Steps<L>)
     requires { IsReady state held.old.system held.old.path }
     ensures comes { TurnsTo (next_path_of state held.old.path) result held.new.path }
     ensures system { held.new.system ≡ held.old.system }
+    ensures rules { held.new.rules ≡ held.old.rules }
     ensures rises { steps.old ≤ steps.new }
-    ensures cost { steps.new + widest held.old.system.columns * length held.new.path ≤ steps.old + widest held.old.system.columns * (length held.old.path + 3) }
+    ensures cost { steps.new + widest held.old.system.columns * length held.new.path ≤ steps.old + widest held.old.system.columns * (length held.old.path + 2) }
 {
     match state {
         State::Here => true,
@@ -85,7 +85,7 @@ fn pay(budget: &mut u64) -> bool
 }
 
 /// What a verdict on a path of this many columns answers, and where the search is then.
-fn answer(verdict: Verdict, length: u32, budget: &mut u64) -> (State, Event)
+fn answer_of(verdict: Verdict, length: u32, budget: &mut u64) -> (State, Event)
     ensures { Answers verdict length budget.old result.0 result.1 budget.new }
 {
     match verdict {
@@ -139,6 +139,7 @@ fn follow<L: Ledger>(held: &mut HeldPath<'_>, path: &Path, steps: &mut Steps<L>)
     ensures whole { IsNone result → (held.new.path ≡ path_of path.now) × (settled_before held.old.system (path_of path.now) ≡ false) }
     ensures settled { IfSome result (IsFirstSettled held.old.system (path_of path.now)) }
     ensures system { held.new.system ≡ held.old.system }
+    ensures rules { held.new.rules ≡ held.old.rules }
     ensures rises { steps.old ≤ steps.new }
     ensures cost { steps.new ≤ steps.old + widest held.old.system.columns * path.now.size }
 {
@@ -165,10 +166,9 @@ impl<'m> Search<'m> {
         ensures whole { IfOk result (λ s. rest_solutions s ≡ solutions system.now) }
         ensures cost { steps.new ≡ steps.old }
     {
-        let held = HeldPath::new(alloc, system)?;
+        let held = HeldPath::new(alloc, system, rules)?;
         Ok(Search {
             held,
-            rules,
             state: State::Here,
         })
     }
@@ -195,18 +195,17 @@ impl<'m> Search<'m> {
         if length > columns {
             return Err(ResumeError::PathRange { length, columns });
         }
-        let Ok(mut held) = HeldPath::new(alloc, system) else {
+        let Ok(mut held) = HeldPath::new(alloc, system, rules) else {
             return Err(ResumeError::OutOfMemory);
         };
         if let Some(length) = follow(&mut held, path, steps) {
             return Err(ResumeError::NotNode(Why::SettledBefore(length)));
         }
-        if let Some(why) = why_not(held.judge(rules)) {
+        if let Some(why) = why_not(held.judge()) {
             return Err(ResumeError::NotNode(why));
         }
         Ok(Search {
             held,
-            rules,
             state: State::Here,
         })
     }
@@ -222,14 +221,66 @@ impl<'m> Search<'m> {
         ensures rises { steps.old ≤ steps.new }
         ensures cost { steps.new + widest self.old.system.columns * length self.new.path ≤ steps.old + widest self.old.system.columns * (length self.old.path + 3) }
     {
-        if !go_on(self.state, &mut self.held, steps) {
-            self.state = State::Done;
+        if !self.come(steps) {
             return Event::Finished;
         }
-        let verdict = self.held.judge(self.rules);
-        let (state, event) = answer(verdict, self.held.length(), budget);
+        self.answer(budget)
+    }
+
+    /// Comes to the path of the first entry that remains. False, at the end, where none does.
+    fn come<L: Ledger>(&mut self, steps: &mut Steps<L>) -> bool
+        ensures none { result ≡ false → (self.old.rest ≡ []) × (self.new ≡ ended self.old) }
+        ensures some { result ≡ true → self.new ≡ stopped self.old self.new.path }
+        ensures rises { steps.old ≤ steps.new }
+        ensures cost { steps.new + widest self.old.system.columns * length self.new.path ≤ steps.old + widest self.old.system.columns * (length self.old.path + 2) }
+    {
+        if !go_on(self.state, &mut self.held, steps) {
+            self.state = State::Done;
+            return false;
+        }
+        self.state = State::Here;
+        true
+    }
+
+    /// Answers the entry of the path to which the search has come.
+    fn answer(&mut self, budget: &mut u64) -> Event
+        requires { IsSome self.old.place }
+        ensures entry { Advances self.old budget.old result self.new budget.new }
+        ensures answer { IsAnswer self.old budget.old result self.new budget.new }
+        ensures path { self.new.path ≡ self.old.path }
+    {
+        let verdict = self.held.judge();
+        let (state, event) = answer_of(verdict, self.held.length(), budget);
         self.state = state;
         event
+    }
+
+    /// Passes the entry of the path to which the search has come, if the path is given up there. Else the search stays.
+    fn skip(&mut self) -> bool
+        requires { IsSome self.old.place }
+        ensures leaf { result ≡ true → PassesLeaf self.old self.new }
+        ensures kept { result ≡ false → self.new ≡ self.old }
+    {
+        if !self.held.is_dead() {
+            return false;
+        }
+        self.state = State::Past;
+        true
+    }
+
+    /// Leaps from the path to which the search has come over nodes whose yes is over at once, as many as the budget allows. Each no passes two entries.
+    fn leap<L: Ledger>(&mut self, budget: &mut u64, steps: &mut Steps<L>)
+        requires { IsSome self.old.place }
+        ensures passes { Passes self.old budget.old self.new budget.new [] }
+        ensures here { IsSome self.new.place }
+        ensures longer { length self.old.path ≤ length self.new.path }
+        ensures count { length self.old.rest + (length self.old.path + length self.old.path) ≡ length self.new.rest + (length self.new.path + length self.new.path) }
+        ensures rises { steps.old ≤ steps.new }
+        ensures cost { steps.new + widest self.old.system.columns * length self.old.path ≤ steps.old + widest self.old.system.columns * (length self.new.path + 1) }
+    {
+        if self.held.is_branch() {
+            *budget -= self.held.leap(*budget, steps);
+        }
     }
 
     /// Goes on to the next solution, if the budget allows it, and lowers the budget by the nodes that it passes.
@@ -244,7 +295,14 @@ impl<'m> Search<'m> {
         ensures cost { steps.new + widest self.old.system.columns * length self.new.path ≤ steps.old + widest self.old.system.columns * (3 * calls_of self.old result self.new + length self.old.path) }
     {
         loop {
-            match self.advance(budget, steps) {
+            if !self.come(steps) {
+                return Turn::Finished;
+            }
+            self.leap(budget, steps);
+            if self.skip() {
+                continue;
+            }
+            match self.answer(budget) {
                 Event::Solution => return Turn::Design,
                 Event::Spent => return Turn::Spent,
                 Event::Finished => return Turn::Finished,

@@ -5,12 +5,13 @@ use crate::{Event, OutOfMemory, Why};
 use df_walk::Rules;
 use std::alloc::Global;
 
-/// Targets, and entries column after column. No entry is above 9.
+/// Targets, and entries column after column. Each entry is a number up to 9, times the scale.
 #[derive(Drop)]
 pub(crate) struct PlainSystem {
     pub(crate) targets: Vec<u32>,
     pub(crate) entries: Vec<u32>,
     pub(crate) columns: usize,
+    pub(crate) scale: u32,
 }
 
 /// An entry of the walk, and its path.
@@ -86,14 +87,15 @@ impl PlainSystem {
         (length..self.columns).all(|column| self.entry(row, column) % divisor == 0)
     }
 
-    /// The greatest number up to 9 that divides all entries from a column on, and 0 where they are all 0.
+    /// The greatest multiple of the scale, up to 9 times it, that divides all entries from a column on, and 0 where they are all 0.
     fn divisor(&self, row: usize, length: usize) -> u64 {
         if self.cap(row, length) == 0 {
             return 0;
         }
-        let mut greatest = 1;
-        for divisor in 2..10u64 {
-            if self.divides_all(divisor, row, length) {
+        let mut greatest = 0;
+        for times in 1..10u64 {
+            let divisor = times.wrapping_mul(self.scale as u64);
+            if divisor > 0 && self.divides_all(divisor, row, length) {
                 greatest = divisor;
             }
         }

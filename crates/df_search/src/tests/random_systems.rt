@@ -31,8 +31,8 @@ impl Numbers {
     }
 }
 
-// A system of at most 4 rows and 6 columns. Each row's entries are multiples of 1, 2 or 3, and its target is the sum of some of them, or that and 1.
-fn make_system(rt: &impl Abort, alloc: Global, numbers: &mut Numbers) -> PlainSystem {
+// A system of at most 4 rows and 6 columns. Each row's entries are multiples of 1, 2 or 3 times the scale, and its target is the sum of some of them, or that and 1.
+fn make_system(rt: &impl Abort, alloc: Global, scale: u32, numbers: &mut Numbers) -> PlainSystem {
     let rows = 1 + numbers.next(4);
     let columns = numbers.next(7);
     let mut targets = Vec::new(alloc);
@@ -45,7 +45,7 @@ fn make_system(rt: &impl Abort, alloc: Global, numbers: &mut Numbers) -> PlainSy
     for _ in 0..columns {
         let chosen = numbers.next(2);
         for (factor, target) in factors.iter().zip(targets.iter_mut()) {
-            let entry = factor.wrapping_mul(numbers.next(4));
+            let entry = factor.wrapping_mul(scale).wrapping_mul(numbers.next(4));
             *target = target.wrapping_add(entry.wrapping_mul(chosen));
             entries.push(entry).expect(rt, "memory");
         }
@@ -54,6 +54,7 @@ fn make_system(rt: &impl Abort, alloc: Global, numbers: &mut Numbers) -> PlainSy
         targets,
         entries,
         columns: columns as usize,
+        scale,
     }
 }
 
@@ -307,6 +308,15 @@ struct Seen {
 }
 
 impl Seen {
+    fn none() -> Seen {
+        Seen {
+            systems: 0,
+            solutions: 0,
+            leaves: 0,
+            residues: 0,
+        }
+    }
+
     fn add(&mut self, walk: &[PlainStep]) {
         for step in walk {
             match step.event {
@@ -341,18 +351,39 @@ fn compare<L: Ledger>(
     seen.systems = seen.systems.wrapping_add(1);
 }
 
+// The whole walk by `advance`, and by `next` three nodes at a time.
+fn compare_once<L: Ledger>(
+    rt: &impl Abort,
+    alloc: Global,
+    plain: &PlainSystem,
+    system: &System,
+    seen: &mut Seen,
+    blank: Blank,
+)
+    requires name { blank.name ≡ L.name }
+    requires parts { blank.parts ≡ L.parts }
+    requires some { 0 < blank.parts }
+{
+    let mut steps = Steps::<L>::new(blank);
+    for rules in [Rules::Plain, Rules::Divisor] {
+        let walk = plain.walk(alloc, rules).expect(rt, "memory");
+        let mut search = Search::new(alloc, system, rules, &mut steps).expect(rt, "memory");
+        let nodes = count_nodes(&walk);
+        assert_walk(rt, alloc, &mut search, &mut steps, &walk, nodes);
+        let mut search = Search::new(alloc, system, rules, &mut steps).expect(rt, "memory");
+        assert_turns(rt, alloc, &mut search, &mut steps, &walk, plain.columns, 3);
+        seen.add(&walk);
+    }
+    seen.systems = seen.systems.wrapping_add(1);
+}
+
 #[test]
 fn searches_are_plain_walks(rt: HostRuntime) {
     let alloc = rt.alloc();
     let mut numbers = Numbers { state: 11 };
-    let mut seen = Seen {
-        systems: 0,
-        solutions: 0,
-        leaves: 0,
-        residues: 0,
-    };
+    let mut seen = Seen::none();
     for _ in 0..300 {
-        let plain = make_system(&rt, alloc, &mut numbers);
+        let plain = make_system(&rt, alloc, 1, &mut numbers);
         if let Some(system) = solver_system(&rt, alloc, &plain) {
             compare::<Brand>(&rt, alloc, &plain, &system, &mut seen, Blank::new(1));
         }
@@ -361,4 +392,22 @@ fn searches_are_plain_walks(rt: HostRuntime) {
     assert!(rt; seen.solutions >= 100, "{} solutions", seen.solutions);
     assert!(rt; seen.leaves >= 100, "{} leaves", seen.leaves);
     assert!(rt; seen.residues >= 100, "{} residues", seen.residues);
+}
+
+// No deadline of a need above 1,048,576 stands in a table.
+#[test]
+fn searches_with_large_targets_are_plain_walks(rt: HostRuntime) {
+    let alloc = rt.alloc();
+    let mut numbers = Numbers { state: 18 };
+    let mut seen = Seen::none();
+    for _ in 0..6 {
+        let plain = make_system(&rt, alloc, 1100000, &mut numbers);
+        if let Some(system) = solver_system(&rt, alloc, &plain) {
+            compare_once::<Brand>(&rt, alloc, &plain, &system, &mut seen, Blank::new(1));
+        }
+    }
+    assert!(rt; seen.systems >= 3, "{} systems", seen.systems);
+    assert!(rt; seen.solutions >= 3, "{} solutions", seen.solutions);
+    assert!(rt; seen.leaves >= 3, "{} leaves", seen.leaves);
+    assert!(rt; seen.residues >= 3, "{} residues", seen.residues);
 }

@@ -1,31 +1,37 @@
-use Rattle.std.proofs.Common.{◌≡◌, ◌<◌, ◌+◌, ◌∙◌, ap, arith, length, take, true, false, ◌∷◌, ◌++◌, [], length-append}
+use Rattle.std.proofs.Common.{◌≡◌, ◌<◌, ◌+◌, ◌∙◌, ap, arith, length, take, refl, List, Bool}
 use Rattle.df_walk.specs.Systems.{widest}
-use Rattle.df_search.proofs.StandingPaths.{held_more, held_length, IsHeld-from_At}
 use Rattle.df_walk.proofs.ColumnWidths.{cells_within}
+use Rattle.df_search.specs.HeldPaths.{Held}
+use Rattle.df_search.proofs.HeldSteps.{held_length, held_room, moves_yes, moves_nos}
 use Rattle.df_search.proofs.held_path.HeldPath.extend.Goals as goal
-use Rattle.df_search.proofs.held_path.HeldPath.extend.Goals.{then-yes, else-yes}
+
+pub take-requires-clause-room : goal.take-requires-clause-room
+take-requires-clause-room g c =
+    let lengths = ap (λ v. length v.path) c.self.view_is in
+    let columns = ap (λ v. length v.system.columns) c.self.view_is in
+    held_room c.self.invariant (omega (arith, c.requires, held_length c.self.invariant))
 
 pub invariant_of-self : goal.invariant_of-self
 invariant_of-self g c =
-    let h = c.self.invariant.held in
-    let k = c.self.inside.length in
-    let q = take k c.self.inside.values.items in
-    let views = ap (λ v. length v.path) c.self.view_is in
+    let lengths = ap (λ v. length v.path) c.self.view_is in
     let columns = ap (λ v. length v.system.columns) c.self.view_is in
-    let short : k < length c.self.inside.system.now.columns = omega (arith, c.requires, held_length h) in
-    let yes_length : k + 1 ≡ length (q ++ true ∷ []) = omega (arith, length-append q (true ∷ []), held_length h) in
-    let no_length : k + 1 ≡ length (q ++ false ∷ []) = omega (arith, length-append q (false ∷ []), held_length h) in
-    elim c.if-yes.branch [
-      | then-yes w ↦ rw (w.self-inside-is, w.if-yes.true) (record { held = IsHeld-from_At (k + 1) h.is_system (ap (λ a. a.system) w.take.ensures.value ∙ h.same) h.few (held_more w.take.new.self true h short w.take.ensures.value) yes_length; no_divisors = c.self.invariant.no_divisors })
-      | else-yes w ↦ rw (w.self-inside-is, w.if-yes.false) (record { held = IsHeld-from_At (k + 1) h.is_system (ap (λ a. a.system) w.leave.ensures.value ∙ h.same) h.few (held_more w.leave.new.self false h short w.leave.ensures.value) no_length; no_divisors = c.self.invariant.no_divisors })
-    ]
+    (moves_yes c.take.new.self c.limit-self-inside.result c.self.invariant (omega (arith, c.requires, held_length c.self.invariant)) c.take.ensures.value c.limit-self-inside.ensures).held
 
-pub returns-clause-cost : goal.returns-clause-cost
-returns-clause-cost g c =
-    let h = c.self.invariant.held in
-    let same = ap (λ s. widest s.columns) (h.same ∙ ap (λ v. v.system) c.self.view_is) in
-    let most = cells_within c.self.inside.partial.system c.self.inside.length in
-    elim c.if-yes.branch [
-      | then-yes w ↦ omega (arith, w.take.ensures.cost, w.steps-is)
-      | else-yes w ↦ omega (arith, w.leave.ensures.cost, w.steps-is)
-    ]
+pub invariant_of-self-else-yes : goal.invariant_of-self-else-yes
+invariant_of-self-else-yes g c =
+    let lengths = ap (λ v. length v.path) c.self.view_is in
+    let columns = ap (λ v. length v.system.columns) c.self.view_is in
+    (moves_nos 1 (c.self.inside.length + 1) c.self.invariant refl (omega (arith, c.requires, held_length c.self.invariant))).held
+
+pub returns-then-yes-clause-cost : goal.returns-then-yes-clause-cost
+returns-then-yes-clause-cost g c =
+    let same = ap (λ v. widest v.system.columns) c.self.view_is in
+    omega (arith, same, c.take.ensures.cost, cells_within c.self.inside.rows.system c.self.inside.length)
+
+pub returns-else-yes-clause-value : goal.returns-else-yes-clause-value
+returns-else-yes-clause-value g c =
+    let lengths = ap (λ v. length v.path) c.self.view_is in
+    let columns = ap (λ v. length v.system.columns) c.self.view_is in
+    let m = moves_nos 1 (c.self.inside.length + 1) c.self.invariant refl (omega (arith, c.requires, held_length c.self.invariant)) in
+    let f : List Bool → Held = λ p. record { system = c.self.inside.rows.system; rules = c.self.inside.rows.rules; path = p } in
+    rw (← c.self.view_is, c.if-yes.false) (ap f m.front)
