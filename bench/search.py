@@ -338,7 +338,7 @@ RACE_PROOFS = {
     "main": '''use Rattle.race.proofs.main.Given as goal
 
 abbrev pub ghosts-counted : goal.ghosts-counted
-ghosts-counted g a = record { name = a.blank.name; parts = a.blank.parts }
+ghosts-counted a = record { name = a.blank.name; parts = a.blank.parts }
 ''',
 }
 
