@@ -15,6 +15,7 @@ pub mod IncreasingColumns
 pub mod RowNeeds
 pub mod DeadlineLaws
 pub mod DeadlineTables
+pub mod ReachLists
 pub mod PassingRows
 pub mod RowChanges
 pub mod PathRowLaws

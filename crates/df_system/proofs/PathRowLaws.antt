@@ -11,16 +11,15 @@ use Rattle.df_walk.specs.Assignments.{common_divisor, least_row}
 use Rattle.df_walk.proofs.EntryLaws.{entry_is, length-entries}
 use Rattle.df_walk.proofs.RowTests.{least_row_is, least_row_none, rows_pass, row_fails}
 use Rattle.df_system.specs.declared.counted_rows.PathRow.{PathRow}
-use Rattle.df_system.specs.declared.path_rows.Turn.TheVariants.{Take, TakeBack}
 use Rattle.df_system.specs.PathRows.{Yeses, taken_in, is_over_in, is_met_in, has_residue_from, IsLimit, IsBarred}
 use Rattle.df_system.specs.Deadlines.{IsDeadline}
-use Rattle.df_system.specs.CountedRows.{row_at, is_over_row, is_unmet_row, IsFirstRow, TellsSome, RowsAlong, CanTurn, HaveDeadlines, AreRows, IsSmallColumn, IsStack}
+use Rattle.df_system.specs.CountedRows.{row_at, is_over_row, is_unmet_row, IsFirstRow, TellsSome, RowsAlong, with_entry, without_entry, HaveSmallSums, HaveTaken, HaveTargets, HaveDeadlines, AreRows, IsSmallColumn, IsStack}
 use Rattle.df_system.proofs.DecisionTrails.{reverse_less, length-trail}
 use Rattle.df_system.proofs.SortedCells.{blank, entry_in_order}
 use Rattle.df_system.proofs.RowNeeds.{residue_told, residue_untold}
 
 -- a yes column more
-pub rows_taken : {s : System} {rules : Rules} {chosen : List ℕ} {old new : List PathRow} (column : ℕ) → AreRows s rules chosen old → RowsAlong Take (cells s column) old new → HaveDeadlines s rules new → AreRows s rules (column ∷ chosen) new
+pub rows_taken : {s : System} {rules : Rules} {chosen : List ℕ} {old new : List PathRow} (column : ℕ) → AreRows s rules chosen old → RowsAlong with_entry (cells s column) old new → HaveDeadlines s rules new → AreRows s rules (column ∷ chosen) new
 rows_taken {s} {rules} {chosen} {old} {new} column are along due = record {
   long = along.long ∙ are.long;
   targets = λ row h. along.same row (omega (arith, are.long)) ∙ are.targets row h;
@@ -29,7 +28,7 @@ rows_taken {s} {rules} {chosen} {old} {new} column are along due = record {
 }
 
 -- and one less
-pub rows_given_back : {s : System} {rules : Rules} {chosen : List ℕ} {old new : List PathRow} (column : ℕ) → AreRows s rules (column ∷ chosen) old → RowsAlong TakeBack (cells s column) old new → HaveDeadlines s rules new → AreRows s rules chosen new
+pub rows_given_back : {s : System} {rules : Rules} {chosen : List ℕ} {old new : List PathRow} (column : ℕ) → AreRows s rules (column ∷ chosen) old → RowsAlong without_entry (cells s column) old new → HaveDeadlines s rules new → AreRows s rules chosen new
 rows_given_back {s} {rules} {chosen} {old} {new} column are along due = record {
   long = along.long ∙ are.long;
   targets = λ row h. along.same row (omega (arith, are.long)) ∙ are.targets row h;
@@ -37,8 +36,11 @@ rows_given_back {s} {rules} {chosen} {old} {new} column are along due = record {
   due = due;
 }
 
-pub can_give_back : {s : System} {rules : Rules} {chosen : List ℕ} {rows : List PathRow} (column : ℕ) → AreRows s rules (column ∷ chosen) rows → CanTurn TakeBack (cells s column) rows
+pub can_give_back : {s : System} {rules : Rules} {chosen : List ℕ} {rows : List PathRow} (column : ℕ) → AreRows s rules (column ∷ chosen) rows → HaveTaken (cells s column) rows
 can_give_back {s} column are row h = let was = are.taken row (omega (arith, are.long)) in let e = entry_is s row column in omega arith
+
+pub have_targets : {s : System} {rules : Rules} {chosen : List ℕ} {rows : List PathRow} → AreRows s rules chosen rows → HaveTargets s rows
+have_targets are row h = are.targets row (omega (arith, are.long))
 
 -- no sum is above so many of the greatest numbers of 32 bits
 taken_small : {s : System} {trail : List ℕ} {count : ℕ} (row k : ℕ) → IsStack s trail count → k ≤ count → taken_in s row (reverse (take k trail)) ≤ k * 4294967296
@@ -56,8 +58,8 @@ taken_fits {s} {rules} {trail} {count} {rows} row few stack are h =
     let is = are.taken row (omega (arith, are.long)) in
     omega (arith, stack.within)
 
-pub can_take : {s : System} {rules : Rules} {trail : List ℕ} {count : ℕ} {rows : List PathRow} (column : List Cell) → length s.columns ≤ 16777216 → IsStack s trail count → AreRows s rules (reverse (take count trail)) rows → CanTurn Take column rows
-can_take column few stack are row h = taken_fits row few stack are h
+pub can_take : {s : System} {rules : Rules} {trail : List ℕ} {count : ℕ} {rows : List PathRow} → length s.columns ≤ 16777216 → IsStack s trail count → AreRows s rules (reverse (take count trail)) rows → HaveSmallSums rows
+can_take few stack are row h = taken_fits row few stack are h
 
 -- the stack with one column more, and with one less
 pub stack_room : {s : System} {trail : List ℕ} {count : ℕ} → IsStack s trail count → length (reverse (take count trail)) < length s.columns → count < length trail

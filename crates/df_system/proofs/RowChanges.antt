@@ -6,22 +6,16 @@ use Rattle.df_walk.specs.declared.Cell.{Cell}
 use Rattle.df_walk.specs.declared.Rules.{Rules}
 use Rattle.df_walk.specs.Systems.{System, AreCells, entries, entry_of}
 use Rattle.df_system.specs.declared.counted_rows.PathRow.{PathRow}
-use Rattle.df_system.specs.declared.path_rows.Turn.{Turn}
-use Rattle.df_system.specs.declared.path_rows.Turn.TheVariants.{Take, TakeBack}
 use Rattle.df_system.specs.Deadlines.{IsDeadline}
-use Rattle.df_system.specs.CountedRows.{blank_row, row_at, turned, RowsAlong, HaveDeadlines}
+use Rattle.df_system.specs.CountedRows.{blank_row, row_at, RowsAlong, HaveDeadlines}
 use Rattle.df_system.proofs.SortedCells.{blank, entry_in_order}
 use Rattle.df_system.proofs.LinkedDivisors.{absent_before, entry_here, entry_elsewhere}
 
-turned_none : (turn : Turn) (taken : ℕ) → turned turn taken 0 ≡ taken
-turned_none Take taken = omega arith
-turned_none TakeBack taken = omega arith
-
 -- nothing has changed yet
-pub rows_start : (turn : Turn) (rows : List PathRow) → RowsAlong turn [] rows rows
-rows_start turn rows = record { long = refl; same = λ row h. refl; each = λ row h. sym (turned_none turn (row_at rows row).taken) }
+pub rows_start : (change : ℕ → ℕ → ℕ) → ((taken : ℕ) → change taken 0 ≡ taken) → (rows : List PathRow) → RowsAlong change [] rows rows
+rows_start change none rows = record { long = refl; same = λ row h. refl; each = λ row h. sym (none (row_at rows row).taken) }
 
-module _ (turn : Turn) (count : ℕ) (column : List Cell) (k : ℕ) (old now : List PathRow) (sorted : AreCells count column) (more : k < length column) (long : length old ≡ count) (along : RowsAlong turn (take k column) old now) where
+module _ (change : ℕ → ℕ → ℕ) (none : (taken : ℕ) → change taken 0 ≡ taken) (count : ℕ) (column : List Cell) (k : ℕ) (old now : List PathRow) (sorted : AreCells count column) (more : k < length column) (long : length old ≡ count) (along : RowsAlong change (take k column) old now) where
   pub cell_within : (get_or column k blank).row < count
   cell_within = sorted.in_range k blank more
 
@@ -29,12 +23,12 @@ module _ (turn : Turn) (count : ℕ) (column : List Cell) (k : ℕ) (old now : L
   pub row_untouched : (row_at now (get_or column k blank).row).taken ≡ (row_at old (get_or column k blank).row).taken
   row_untouched =
       let row = (get_or column k blank).row in
-      along.each row (omega (arith, long, cell_within)) ∙ ap (turned turn (row_at old row).taken) (absent_before column k sorted.increasing more) ∙ turned_none turn (row_at old row).taken
+      along.each row (omega (arith, long, cell_within)) ∙ ap (change (row_at old row).taken) (absent_before column k sorted.increasing more) ∙ none (row_at old row).taken
 
   pub entry_at_cell : entry_of column (get_or column k blank).row ≡ (get_or column k blank).value
   entry_at_cell = entry_in_order column (get_or column k blank).row k sorted.increasing more refl
 
-  pub rows_more : (after : PathRow) → after.target ≡ (row_at now (get_or column k blank).row).target → after.taken ≡ turned turn (row_at now (get_or column k blank).row).taken (get_or column k blank).value → RowsAlong turn (take (k + 1) column) old (set now (get_or column k blank).row after)
+  pub rows_more : (after : PathRow) → after.target ≡ (row_at now (get_or column k blank).row).target → after.taken ≡ change (row_at now (get_or column k blank).row).taken (get_or column k blank).value → RowsAlong change (take (k + 1) column) old (set now (get_or column k blank).row after)
   rows_more after target taken =
       let cell = get_or column k blank in
       let here : cell.row < length now = omega (arith, along.long, long, cell_within) in
@@ -45,8 +39,8 @@ module _ (turn : Turn) (count : ℕ) (column : List Cell) (k : ℕ) (old now : L
           | inr other ↦ ap (λ (r : PathRow). r.target) (get_or-set_other now cell.row row after blank_row other) ∙ along.same row h
         ];
         each = λ row h. elim (cases_eq row cell.row) [
-          | inl is ↦ rw (is, get_or-set_same now cell.row after blank_row here) (taken ∙ ap (λ t. turned turn t cell.value) row_untouched ∙ ap (turned turn (row_at old cell.row).taken) (sym (entry_here column k sorted.increasing more)))
-          | inr other ↦ ap (λ (r : PathRow). r.taken) (get_or-set_other now cell.row row after blank_row other) ∙ along.each row h ∙ ap (turned turn (row_at old row).taken) (sym (entry_elsewhere column k row more other))
+          | inl is ↦ rw (is, get_or-set_same now cell.row after blank_row here) (taken ∙ ap (λ t. change t cell.value) row_untouched ∙ ap (change (row_at old cell.row).taken) (sym (entry_here column k sorted.increasing more)))
+          | inr other ↦ ap (λ (r : PathRow). r.taken) (get_or-set_other now cell.row row after blank_row other) ∙ along.each row h ∙ ap (change (row_at old row).taken) (sym (entry_elsewhere column k row more other))
         ];
       }
 

@@ -1,7 +1,11 @@
 -- The entry of a row among cells in the order of their rows.
-use Rattle.std.proofs.Common.{◌≡◌, ◌≢◌, ℕ, suc, zero, ◌+◌, ◌-◌, ◌<◌, ◌≤◌, List, [], ◌∷◌, length, get_or, map, refl, arith, inl, inr, subst}
-use Rattle.std.specs.List.Sorted.{IsStrictlyIncreasing}
-use Rattle.std.proofs.lemmas.Bool.{eq-eqb, ne_eqb, cases_eq, cases_order}
+use Rattle.std.proofs.Common.{◌≡◌, ◌≢◌, ℕ, suc, zero, ◌+◌, ◌-◌, ◌<◌, ◌≤◌, List, [], ◌∷◌, length, get_or, map, refl, arith, inl, inr, subst, sym, Ok, Err}
+use Rattle.std.specs.List.Sorted.{IsStrictlyIncreasing, IsNonDecreasingBy, IsBinarySearchResult}
+use Rattle.std.specs.Ordering.{nat_cmp, ordering_index}
+use Rattle.std.proofs.lemmas.Bool.{eq-eqb, ne_eqb, cases_eq, cases_lt, cases_order}
+use Rattle.std.proofs.lemmas.Bool.Decides.{nat_tests}
+use Rattle.std.proofs.lemmas.Cmp.{ranked}
+use Rattle.std.proofs.lemmas.List.Sorted.{IsNonDecreasingBy-from_default}
 use Rattle.std.proofs.lemmas.List.{length-map}
 use Rattle.df_walk.specs.declared.Cell.{Cell}
 use Rattle.df_walk.specs.Systems.{entry_of}
@@ -58,41 +62,21 @@ entry_in_order column row k up h is =
       | inr (inr above) ↦ absurd (omega (arith, rows_rise column k i up above l))
     ])
 
--- what a search by halving knows: the cells before `low` have lower rows, and those from `high` on greater ones
-pub record Halves (column : List Cell) (row low high : ℕ) : Type 0 where
-  pub within : high ≤ length column
-  pub ordered : low ≤ high
-  pub lower : (k : ℕ) → k < low → (get_or column k blank).row < row
-  pub greater : (k : ℕ) → high ≤ k → k < length column → row < (get_or column k blank).row
+-- what a search by halving finds: the cell of the row, or the place that it would have
+module _ (column : List Cell) (row : ℕ) (up : IsStrictlyIncreasing (map (λ cell. cell.row) column)) where
+  comparisons_rise : IsNonDecreasingBy (λ (cell : Cell). ordering_index (nat_cmp cell.row row)) column
+  comparisons_rise = IsNonDecreasingBy-from_default (λ (cell : Cell). ordering_index (nat_cmp cell.row row)) column blank (λ i j le h.
+      let rise : (get_or column i blank).row ≤ (get_or column j blank).row = elim (cases_eq i j) [
+        | inl same ↦ rw same (omega arith)
+        | inr other ↦ omega (arith, rows_rise column i j up (omega arith) h)
+      ] in
+      grind (arith, nat_tests))
 
-pub Halves-low : (column : List Cell) (row low high middle : ℕ) → IsStrictlyIncreasing (map (λ cell. cell.row) column) → Halves column row low high → middle < high → (get_or column middle blank).row < row → Halves column row (middle + 1) high
-Halves-low column row low high middle up h l below =
-    record {
-      within = h.within;
-      ordered = omega arith;
-      lower = λ k lt. elim (cases_eq k middle) [
-        | inl same ↦ rw same below
-        | inr other ↦ let w = h.within in omega (arith, rows_rise column k middle up (omega arith) (omega arith))
-      ];
-      greater = h.greater;
-    }
+  pub searched_found : (k : ℕ) → k < length column → IsBinarySearchResult (λ (cell : Cell). nat_cmp cell.row row) column (Ok k) → entry_of column row ≡ (get_or column k blank).value
+  searched_found k within equal = entry_in_order column row k up within (ranked _ row _ (sym (equal blank)))
 
-pub Halves-high : (column : List Cell) (row low high middle : ℕ) → IsStrictlyIncreasing (map (λ cell. cell.row) column) → Halves column row low high → low ≤ middle → middle < high → row < (get_or column middle blank).row → Halves column row low middle
-Halves-high column row low high middle up h m l above =
-    record {
-      within = omega (arith, h.within);
-      ordered = m;
-      lower = h.lower;
-      greater = λ k at w. elim (cases_eq k middle) [
-        | inl same ↦ rw same above
-        | inr other ↦ omega (arith, rows_rise column middle k up (omega arith) w)
-      ];
-    }
-
-pub Halves-none : (column : List Cell) (row low high : ℕ) → Halves column row low high → high ≤ low → entry_of column row ≡ 0
-Halves-none column row low high h done =
-    entry_absent column row (λ k l e. elim (cases_order k low) [
-      | inl same ↦ absurd (omega (arith, h.greater k (omega arith) l))
-      | inr (inl below) ↦ absurd (omega (arith, h.lower k below))
-      | inr (inr above) ↦ absurd (omega (arith, h.greater k (omega arith) l))
-    ])
+  pub searched_absent : (k : ℕ) → k ≤ length column → IsBinarySearchResult (λ (cell : Cell). nat_cmp cell.row row) column (Err k) → entry_of column row ≡ 0
+  searched_absent k within parted = entry_absent column row (λ j l e. elim (cases_lt j k) [
+    | inl before ↦ absurd (let less : (get_or column j blank).row < row = ranked _ row _ (sym ((parted comparisons_rise).0 j blank (omega arith) before)) in omega arith)
+    | inr after ↦ absurd (let more : row < (get_or column j blank).row = ranked _ row _ (sym ((parted comparisons_rise).1 j blank after l)) in omega arith)
+  ])

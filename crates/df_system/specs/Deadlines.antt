@@ -4,7 +4,9 @@ use Rattle.df_walk.specs.declared.Rules.{Rules}
 use Rattle.df_walk.specs.declared.Rules.TheVariants.{Plain}
 use Rattle.df_walk.specs.Systems.{System, entries}
 use Rattle.df_walk.specs.Assignments.{total}
+use Rattle.df_system.specs.declared.reaches.Reach.{Reach}
 use Rattle.df_system.specs.PathRows.{is_dead}
+use Rattle.df_system.specs.Reaches.{AreFar}
 
 -- the test fails before the column, and passes from it on, up to the number of columns; one past that where it never passes
 pub record IsTurn (columns : ℕ) (test : ℕ → Bool) (turn : ℕ) : Type 0 where
@@ -22,10 +24,11 @@ pub record AreDeadlines (s : System) (rules : Rules) (width : ℕ) (deadlines : 
   pub long : length deadlines ≡ length s.targets * width
   pub each : (row need : ℕ) → row < length s.targets → need < width → IsDeadline rules (entries s row) need 0 (slice_index deadlines (row * width + need))
 
--- by the plain rules, and by the rules of a run
-pub record AreBothDeadlines (s : System) (rules : Rules) (width : ℕ) (shorts dues : List ℕ) : Type 0 where
+-- by the plain rules, by the rules of a run, and the lists for greater needs
+pub record AreAllDeadlines (s : System) (rules : Rules) (width : ℕ) (shorts dues : List ℕ) (far : List (List Reach)) : Type 0 where
   pub plain : AreDeadlines s Plain width shorts
   pub ruled : AreDeadlines s rules width dues
+  pub lists : AreFar s width far
 
 -- no need but 0 is met: its deadline is past all columns
 pub record AreFirst (rows width never : ℕ) (deadlines : List ℕ) : Type 0 where

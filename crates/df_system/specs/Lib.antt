@@ -5,5 +5,6 @@ pub mod Trails
 pub mod BarredColumns
 pub mod BarredWords
 pub mod PathRows
+pub mod Reaches
 pub mod Deadlines
 pub mod CountedRows

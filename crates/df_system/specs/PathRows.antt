@@ -4,6 +4,8 @@ use Rattle.df_walk.specs.declared.Rules.{Rules}
 use Rattle.df_walk.specs.declared.Rules.TheVariants.{Plain, Divisor}
 use Rattle.df_walk.specs.Systems.{System, entries, entry, target}
 use Rattle.df_walk.specs.Assignments.{total, common_divisor, least_row}
+use Rattle.df_system.specs.declared.barred.TheConstants.{COLUMNS_A_WORD}
+use Rattle.df_system.specs.BarredColumns.{kept_levels}
 
 -- a row's entries in these columns, added up
 abbrev pub taken_in : System → ℕ → List ℕ → ℕ
@@ -77,3 +79,17 @@ pub record IsLimit (y : Yeses) (limit : ℕ) : Type 0 where
 -- some row has a positive entry in the column, and it is above the row's need: with yes the row is over
 abbrev pub IsBarred : Yeses → ℕ → Type 0
 IsBarred y column = (row : ℕ) × (row < length y.system.targets) × (0 < entry y.system row column) × (target y.system row < taken_by y row + entry y.system row column)
+
+-- a row that needs nothing has a positive entry in the column
+pub record IsClosed (y : Yeses) (column : ℕ) : Type 0 where
+  pub row : ℕ
+  pub within : row < length y.system.targets
+  pub full : target y.system row ≤ taken_by y row
+  pub positive : 0 < entry y.system row column
+
+-- how many columns from one on are closed, of those of its word; none are told where more are chosen than levels are kept
+pub record IsClosedRun (y : Yeses) (column run : ℕ) : Type 0 where
+  pub closed : (k : ℕ) → k < run → IsClosed y (column + k)
+  pub word : column % COLUMNS_A_WORD + run ≤ COLUMNS_A_WORD
+  pub end : length y.chosen < kept_levels y.system → column % COLUMNS_A_WORD + run < COLUMNS_A_WORD → IsClosed y (column + run) → ⊥
+  pub beyond : kept_levels y.system ≤ length y.chosen → run ≡ 0

@@ -225,6 +225,7 @@ impl<'m> BarredColumns<'m> {
         ensures inside { column + result ≤ length self.now.system.columns }
         ensures word { column % COLUMNS_A_WORD + result ≤ COLUMNS_A_WORD }
         ensures end { length self.now.levels ≤ kept_levels self.now.system → column % COLUMNS_A_WORD + result < COLUMNS_A_WORD → IsBarredBy self.now.system self.now.levels (column + result) → ⊥ }
+        ensures beyond { kept_levels self.now.system < length self.now.levels → result ≡ 0 }
     {
         if self.kept <= self.top {
             return 0;

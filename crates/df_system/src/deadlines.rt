@@ -1,21 +1,27 @@
 // For each row and each small need the first column from which on the row can't meet the need any more: its deadline.
 // A path of further no's keeps its needs, so it is ruled out exactly from the least of its rows' deadlines on.
-// All are made in one pass over the cells from the last column to the first: a cell of value v brings its row the deadlines of the v needs above what the later cells add up to.
+// Those of small needs stand in a table, which is made in one pass over the cells from the last column to the first: a cell of value v brings its row the deadlines of the v needs above what the later cells add up to.
+// The table has no more places than twice the cells, and none for needs that no row has or can meet, so that making it takes no more than a few times as long as reading all cells. Greater needs have their deadlines by halving (`reaches`).
 // By the divisor's rules a deadline may come earlier, at one of the at most 32 columns at which the row's divisor changes.
 // They are made from the entries without the counter, as divisors are: no decision needs them but to do less.
-ghost use Rattle.std.specs.Prelude.{◌≡◌, ℕ, ◌+◌, ◌*◌, ◌<◌, ◌≤◌, length, min, slice_index, slice_set, IfOk};
+ghost use Rattle.std.specs.Prelude.{◌≡◌, ◌+◌, ◌*◌, ◌<◌, ◌≤◌, length, min, slice_index, slice_set, IfOk};
 ghost use Rattle.df_walk.specs.declared.Rules.TheVariants.{Plain};
-ghost use Rattle.df_walk.specs.Systems.{entries};
-ghost use Rattle.df_system.specs.Deadlines.{IsDeadline, AreDeadlines, AreBothDeadlines, AreFirst, IsFilled, AreReached, AreRuled};
+ghost use Rattle.df_walk.specs.Systems.{entries, target};
+ghost use Rattle.df_system.specs.Deadlines.{IsDeadline, AreDeadlines, AreAllDeadlines, AreFirst, IsFilled, AreReached, AreRuled};
+ghost use Rattle.df_system.specs.Reaches.{AreTotals, IsGreatestNeed, AreFar};
 
 use crate::OutOfMemory;
 use crate::limits::{MOST_ENTRIES, ROW_LIMIT};
+use crate::reaches::{Reaches, row_reaches};
 use crate::system::System;
 use df_walk::{Cell, Rules};
 use std::alloc::Global;
 
 /// At most so many deadlines are kept, unless there are more rows: each row has that of need 0.
-pub const MOST_DEADLINES: u32 = 1_048_576;
+pub const MOST_DEADLINES: usize = 1_048_576;
+
+/// And at most so many for each cell, with the same exception.
+pub const DEADLINES_A_CELL: usize = 2;
 
 /// The deadlines of each row's needs below the width, a row's one after another.
 #[derive(Drop)]
@@ -25,25 +31,60 @@ pub(crate) struct Deadlines {
     pub(crate) shorts: Vec<u32>,
     // by the rules of the run
     pub(crate) dues: Vec<u32>,
+    // by the caps alone, for each row those of all its needs, where some row can meet a need from the width on
+    pub(crate) far: Vec<Reaches>,
 }
 
-/// For how many needs of each row, from 0 on, the deadlines are kept.
-fn kept_needs(system: &System) -> usize
+/// What each row's entries add up to, or `u32::MAX` where that is more.
+fn row_totals(alloc: Global, system: &System) -> Result<Vec<u32>, OutOfMemory>
+    ensures { IfOk result (λ v. AreTotals system.now v.items) }
+{
+    let mut totals = vec![in alloc; 0u32; system.rows() as usize]?;
+    for cell in system.all_cells() {
+        let row = cell.row as usize;
+        totals[row] = totals[row].saturating_add(cell.value);
+    }
+    Ok(totals)
+}
+
+/// A need that is at least as great as any that a row has and can meet.
+fn greatest_need(system: &System, totals: &[u32]) -> u32
+    requires { AreTotals system.now totals.now }
+    ensures { IsGreatestNeed system.now result }
+{
+    let mut most = 0;
+    for row in 0..system.rows() {
+        most = most.max(system.target(row).min(totals[row as usize]));
+    }
+    most
+}
+
+/// For how many needs of each row, from 0 on, the deadlines are kept in the table, where no row can meet a greater need than `most`.
+fn kept_needs(system: &System, most: u32) -> usize
     ensures some { 0 < result }
     ensures few { result ≤ MOST_DEADLINES }
 {
-    let rows = system.rows();
-    let mut most = 0;
-    for row in 0..rows {
-        most = most.max(system.target(row));
-    }
-    let room = if rows == 0 { 1 } else { MOST_DEADLINES / rows };
-    if room == 0 {
-        1
-    } else if most < room {
-        most as usize + 1
+    let rows = system.rows() as usize;
+    let room = (DEADLINES_A_CELL * system.all_cells().len()).min(MOST_DEADLINES);
+    let each = if rows == 0 { 1 } else { room / rows };
+    (most as usize + 1).min(each).max(1)
+}
+
+/// The lists for the needs from the width on, where no row can meet a greater need than `most`.
+fn far_reaches(
+    alloc: Global,
+    system: &System,
+    width: usize,
+    most: u32,
+) -> Result<Vec<Reaches>, OutOfMemory>
+    requires { IsGreatestNeed system.now most }
+    ensures { IfOk result (λ v. AreFar system.now width v.items) }
+{
+    if (most as usize) < width {
+        Ok(Vec::new(alloc))
     } else {
-        room as usize
+        let lists = row_reaches(alloc, system)?;
+        Ok(lists)
     }
 }
 
@@ -182,27 +223,6 @@ fn ruled_deadlines(
     Ok(dues)
 }
 
-/// The deadline of a need by the caps alone, by going through the columns from the last on.
-fn scan_deadline(system: &System, row: u32, need: u64) -> u32
-    requires { row < length system.now.targets }
-    ensures { IsDeadline Plain (entries system.now row) need 0 result }
-{
-    let mut column = system.columns();
-    if need == 0 {
-        return column + 1;
-    }
-    let mut missing = need;
-    while column > 0 {
-        let value = system.value(row, column - 1) as u64;
-        if missing <= value {
-            return column;
-        }
-        missing -= value;
-        column -= 1;
-    }
-    0
-}
-
 impl Deadlines {
     /// The deadlines of a system by these rules.
     pub(crate) fn new(
@@ -210,41 +230,63 @@ impl Deadlines {
         system: &System,
         rules: Rules,
     ) -> Result<Deadlines, OutOfMemory>
-        ensures { IfOk result (λ d. AreBothDeadlines system.now rules d.width d.shorts.items d.dues.items) }
+        ensures { IfOk result (λ d. AreAllDeadlines system.now rules d.width d.shorts.items d.dues.items d.far.items) }
     {
-        let width = kept_needs(system);
+        let totals = row_totals(alloc, system)?;
+        let most = greatest_need(system, &totals);
+        let width = kept_needs(system, most);
         let shorts = short_deadlines(alloc, system, width)?;
         let dues = ruled_deadlines(alloc, system, rules, width, &shorts)?;
+        let far = far_reaches(alloc, system, width, most)?;
         Ok(Deadlines {
             width,
             shorts,
             dues,
+            far,
         })
     }
 
-    /// The deadline of a row's need by the caps alone.
-    pub(crate) fn short(&self, system: &System, row: u32, need: u64) -> u32
+    /// The deadline by the caps alone of a need that has none in the table.
+    fn far(&self, system: &System, row: u32, need: u32) -> u32
         requires row { row < length system.now.targets }
-        requires deadlines { AreDeadlines system.now Plain self.now.width self.now.shorts.items }
+        requires need { need ≤ target system.now row }
+        requires wide { self.now.width ≤ need }
+        requires some { 0 < self.now.width }
+        requires far { AreFar system.now self.now.width self.now.far.items }
         ensures { IsDeadline Plain (entries system.now row) need 0 result }
     {
-        if need < self.width as u64 {
+        match self.far.get(row as usize) {
+            Some(reaches) => reaches.deadline(need),
+            None => 0,
+        }
+    }
+
+    /// The deadline of a row's need by the caps alone.
+    pub(crate) fn short(&self, system: &System, rules: Rules, row: u32, need: u32) -> u32
+        requires row { row < length system.now.targets }
+        requires need { need ≤ target system.now row }
+        requires deadlines { AreAllDeadlines system.now rules self.now.width self.now.shorts.items self.now.dues.items self.now.far.items }
+        ensures { IsDeadline Plain (entries system.now row) need 0 result }
+    {
+        if (need as usize) < self.width {
             self.shorts[row as usize * self.width + need as usize]
         } else {
-            scan_deadline(system, row, need)
+            self.far(system, row, need)
         }
     }
 
     /// The deadline of a row's need by the rules.
-    pub(crate) fn due(&self, system: &System, rules: Rules, row: u32, need: u64) -> u32
+    pub(crate) fn due(&self, system: &System, rules: Rules, row: u32, need: u32) -> u32
         requires row { row < length system.now.targets }
-        requires deadlines { AreDeadlines system.now rules self.now.width self.now.dues.items }
+        requires need { need ≤ target system.now row }
+        requires deadlines { AreAllDeadlines system.now rules self.now.width self.now.shorts.items self.now.dues.items self.now.far.items }
         ensures { IsDeadline rules (entries system.now row) need 0 result }
     {
-        if need < self.width as u64 {
+        if (need as usize) < self.width {
             self.dues[row as usize * self.width + need as usize]
         } else {
-            ruled_deadline(system, rules, row, need, scan_deadline(system, row, need))
+            let short = self.far(system, row, need);
+            ruled_deadline(system, rules, row, need as u64, short)
         }
     }
 }

@@ -13,12 +13,13 @@ pub mod limits;
 pub mod partial;
 pub mod path;
 pub mod path_rows;
+mod reaches;
 pub mod system;
 mod tallies;
 
 pub use barred::BarredColumns;
 pub use columns::Columns;
-pub use deadlines::MOST_DEADLINES;
+pub use deadlines::{DEADLINES_A_CELL, MOST_DEADLINES};
 pub use df_walk::{Cell, Rules};
 pub use limits::{MOST_COLUMNS, MOST_ENTRIES, ROW_LIMIT};
 pub use partial::Partial;

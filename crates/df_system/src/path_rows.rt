@@ -5,31 +5,24 @@
 // decision changes and each that a column is tried by.
 ghost use Rattle.std.specs.Prelude.{◌≡◌, ℕ, ◌+◌, ◌<◌, ◌≤◌, [], ◌∷◌, length, drop, true, false, is_some, Some, None, IsNone, IfOk, IfSome};
 ghost use Rattle.std.specs.List.{list_all};
-ghost use Rattle.df_walk.specs.Systems.{AreCells, rows_of, cells, entries, target};
+ghost use Rattle.df_walk.specs.Systems.{rows_of, cells, entries, target};
 ghost use Rattle.df_walk.specs.Assignments.{least_row};
-ghost use Rattle.df_system.specs.PathRows.{taken_by, is_over_in, is_met_in, is_short_from, has_residue_from, least_residue_by, divisor_from, IsLimit, IsBarred};
-ghost use Rattle.df_system.specs.Deadlines.{IsDeadline, AreDeadlines};
-ghost use Rattle.df_system.specs.CountedRows.{AreRows, HaveDeadlines, RowsAlong, CanTurn, IsSmallColumn, HadTargets, HaveTargets};
+ghost use Rattle.df_system.specs.PathRows.{taken_by, is_over_in, is_met_in, is_short_from, has_residue_from, least_residue_by, divisor_from, IsLimit, IsBarred, IsClosedRun};
+ghost use Rattle.df_system.specs.Deadlines.{IsDeadline, AreAllDeadlines};
+ghost use Rattle.df_system.specs.CountedRows.{AreRows, HaveTargets, HaveDeadlines, HaveSmallSums, HaveTaken, RowsAlong, with_entry, without_entry, IsSmallColumn, BarFullRows};
 ghost use Rattle.df_walk.specs.declared.Rules.TheVariants.{Divisor};
 
 use crate::OutOfMemory;
-use crate::barred::{BarredColumns, COLUMNS_A_WORD};
+use crate::barred::BarredColumns;
 use crate::counted_rows::{CountedRows, PathRow};
 use crate::deadlines::Deadlines;
 use crate::limits::ROW_LIMIT;
 use crate::system::System;
 use df_steps::Steps;
-use df_walk::{Cell, Rules};
+use df_walk::Rules;
 use std::alloc::Global;
 use std::marker::Model;
 use std::sync::ledger::Ledger;
-
-/// What happens to a column.
-#[derive(Clone, Copy)]
-pub(crate) enum Turn {
-    Take,
-    TakeBack,
-}
 
 /// The yes columns of a path of a system, which are taken and given back in the order of a stack, and what each row has under them.
 ///
@@ -56,7 +49,7 @@ impl<'m> Model for PathRows<'m> {
 
     ghost view = { λ p. record { system = p.system.now; rules = p.rules; chosen = reverse (take p.count p.trail.items) } };
 
-    ghost invariant = { λ p. ArePathRows p.system.now p.rules p.deadlines.width p.deadlines.shorts.items p.deadlines.dues.items p.trail.items p.count p.rows p.barred };
+    ghost invariant = { λ p. ArePathRows p.system.now p.rules p.deadlines.width p.deadlines.shorts.items p.deadlines.dues.items p.deadlines.far.items p.trail.items p.count p.rows p.barred };
 }
 
 /// The row with its target that has taken this much.
@@ -65,50 +58,91 @@ fn row_with(
     system: &System,
     rules: Rules,
     row: u32,
-    target: u32,
+    goal: u32,
     taken: u64,
 ) -> PathRow
     requires row { row < length system.now.targets }
-    requires deadlines { AreDeadlines system.now rules deadlines.now.width deadlines.now.dues.items }
-    ensures target { result.target ≡ target }
+    requires goal { goal ≡ target system.now row }
+    requires deadlines { AreAllDeadlines system.now rules deadlines.now.width deadlines.now.shorts.items deadlines.now.dues.items deadlines.now.far.items }
+    ensures target { result.target ≡ goal }
     ensures taken { result.taken ≡ taken }
-    ensures due { IsDeadline rules (entries system.now row) target taken result.due }
+    ensures due { IsDeadline rules (entries system.now row) goal taken result.due }
 {
-    let due = match (target as u64).checked_sub(taken) {
-        Some(need) => deadlines.due(system, rules, row, need),
+    let due = match (goal as u64).checked_sub(taken) {
+        Some(need) => deadlines.due(system, rules, row, need as u32),
         None => 0,
     };
-    PathRow { target, due, taken }
+    PathRow {
+        target: goal,
+        due,
+        taken,
+    }
 }
 
-/// Takes a column or gives it back, in one step for each of its cells.
-fn turn_along<L: Ledger>(
+/// Takes a column, in one step for each of its cells, and bars the rows that have their targets since then.
+fn take_along<L: Ledger>(
     rows: &mut CountedRows,
+    barred: &mut BarredColumns<'_>,
     deadlines: &Deadlines,
     system: &System,
     rules: Rules,
     column: u32,
-    turn: Turn,
     steps: &mut Steps<L>,
 )
     requires column { column < length system.now.columns }
-    requires deadlines { AreDeadlines system.now rules deadlines.now.width deadlines.now.dues.items }
+    requires deadlines { AreAllDeadlines system.now rules deadlines.now.width deadlines.now.shorts.items deadlines.now.dues.items deadlines.now.far.items }
     requires long { length rows.old ≡ length system.now.targets }
+    requires targets { HaveTargets system.now rows.old }
     requires due { HaveDeadlines system.now rules rows.old }
-    requires can { CanTurn turn (cells system.now column) rows.old }
-    ensures along { RowsAlong turn (cells system.now column) rows.old rows.new }
+    requires small { HaveSmallSums rows.old }
+    requires same { barred.old.system ≡ system.now }
+    requires some { 0 < length barred.old.levels }
+    requires bar { BarFullRows barred.old.levels rows.old }
+    ensures along { RowsAlong with_entry (cells system.now column) rows.old rows.new }
     ensures due { HaveDeadlines system.now rules rows.new }
     ensures small { IsSmallColumn system.now column }
+    ensures same { barred.new.system ≡ barred.old.system }
+    ensures lower { drop 1 barred.new.levels ≡ drop 1 barred.old.levels }
+    ensures depth { length barred.new.levels ≡ length barred.old.levels }
+    ensures bar { BarFullRows barred.new.levels rows.new }
     ensures cost { steps.new ≡ steps.old + length (cells system.now column) }
 {
     for cell in system.column(column) {
         steps.tick();
         let before = rows.get(cell.row as usize);
-        let value = cell.value as u64;
-        let taken = match turn {
-            Turn::Take => before.taken + value,
-            Turn::TakeBack => before.taken - value,
-        };
+        let target = before.target as u64;
+        let taken = before.taken + cell.value as u64;
+        let after = row_with(deadlines, system, rules, cell.row, before.target, taken);
+        rows.set(cell.row as usize, after);
+        if before.taken < target && target <= taken {
+            barred.bar(cell.row);
+        }
+    }
+}
+
+/// Gives a column back, in one step for each of its cells.
+fn give_back_along<L: Ledger>(
+    rows: &mut CountedRows,
+    deadlines: &Deadlines,
+    system: &System,
+    rules: Rules,
+    column: u32,
+    steps: &mut Steps<L>,
+)
+    requires column { column < length system.now.columns }
+    requires deadlines { AreAllDeadlines system.now rules deadlines.now.width deadlines.now.shorts.items deadlines.now.dues.items deadlines.now.far.items }
+    requires long { length rows.old ≡ length system.now.targets }
+    requires targets { HaveTargets system.now rows.old }
+    requires due { HaveDeadlines system.now rules rows.old }
+    requires taken { HaveTaken (cells system.now column) rows.old }
+    ensures along { RowsAlong without_entry (cells system.now column) rows.old rows.new }
+    ensures due { HaveDeadlines system.now rules rows.new }
+    ensures cost { steps.new ≡ steps.old + length (cells system.now column) }
+{
+    for cell in system.column(column) {
+        steps.tick();
+        let before = rows.get(cell.row as usize);
+        let taken = before.taken - cell.value as u64;
         let after = row_with(deadlines, system, rules, cell.row, before.target, taken);
         rows.set(cell.row as usize, after);
     }
@@ -121,7 +155,7 @@ fn first_rows(
     rules: Rules,
     deadlines: &Deadlines,
 ) -> Result<CountedRows, OutOfMemory>
-    requires { AreDeadlines system.now rules deadlines.now.width deadlines.now.dues.items }
+    requires { AreAllDeadlines system.now rules deadlines.now.width deadlines.now.shorts.items deadlines.now.dues.items deadlines.now.far.items }
     ensures { IfOk result (λ rows. AreRows system.now rules [] rows) }
 {
     let count = system.rows();
@@ -137,35 +171,15 @@ fn bar_first(barred: &mut BarredColumns<'_>, rows: &CountedRows)
     requires rows { length rows.now ≡ length barred.old.system.targets }
     requires few { length rows.now < ROW_LIMIT }
     requires empty { barred.old.levels ≡ [] ∷ [] }
-    ensures system { barred.new.system ≡ barred.old.system }
+    ensures same { barred.new.system ≡ barred.old.system }
     ensures depth { length barred.new.levels ≡ 1 }
-    ensures filled { HaveTargets barred.new.levels rows.now }
+    ensures bar { BarFullRows barred.new.levels rows.now }
 {
     let count = rows.rows().len();
     for row in 0..count {
         let now = rows.get(row);
         if now.target as u64 <= now.taken {
             barred.bar(row as u32);
-        }
-    }
-}
-
-/// Bars the rows of a column that have their targets since it is taken.
-fn bar_along(barred: &mut BarredColumns<'_>, rows: &CountedRows, column: &[Cell])
-    requires rows { length rows.now ≡ length barred.old.system.targets }
-    requires column { AreCells (length barred.old.system.targets) column.now }
-    requires some { 0 < length barred.old.levels }
-    requires had { HadTargets barred.old.levels column.now rows.now }
-    ensures system { barred.new.system ≡ barred.old.system }
-    ensures lower { drop 1 barred.new.levels ≡ drop 1 barred.old.levels }
-    ensures depth { length barred.new.levels ≡ length barred.old.levels }
-    ensures filled { HaveTargets barred.new.levels rows.now }
-{
-    for cell in column {
-        let row = rows.get(cell.row as usize);
-        let target = row.target as u64;
-        if target <= row.taken && row.taken < target + cell.value as u64 {
-            barred.bar(cell.row);
         }
     }
 }
@@ -199,17 +213,16 @@ impl<'m> PathRows<'m> {
         ensures value { self.new ≡ record self.old { chosen = column ∷ self.old.chosen } }
         ensures cost { steps.new ≡ steps.old + length (cells self.old.system column) }
     {
-        turn_along(
+        self.barred.push();
+        take_along(
             &mut self.rows,
+            &mut self.barred,
             &self.deadlines,
             self.system,
             self.rules,
             column,
-            Turn::Take,
             steps,
         );
-        self.barred.push();
-        bar_along(&mut self.barred, &self.rows, self.system.column(column));
         self.trail[self.count] = column;
         self.count += 1;
     }
@@ -225,13 +238,12 @@ impl<'m> PathRows<'m> {
             return None;
         }
         let column = self.trail[self.count - 1];
-        turn_along(
+        give_back_along(
             &mut self.rows,
             &self.deadlines,
             self.system,
             self.rules,
             column,
-            Turn::TakeBack,
             steps,
         );
         self.barred.pop();
@@ -294,8 +306,9 @@ impl<'m> PathRows<'m> {
         requires from { from ≤ length self.now.system.columns }
         ensures { result ≡ is_short_from self.now from row }
     {
-        match self.need(row) {
-            Some(need) => self.deadlines.short(self.system, row, need) <= from,
+        let now = self.rows.get(row as usize);
+        match (now.target as u64).checked_sub(now.taken) {
+            Some(need) => self.deadlines.short(self.system, self.rules, row, need as u32) <= from,
             None => false,
         }
     }
@@ -385,13 +398,13 @@ impl<'m> PathRows<'m> {
         true
     }
 
-    /// A number of columns from this one on that are barred by rows that need nothing, of those that share its word in `BarredColumns`.
-    /// 0 says nothing. It counts no step.
+    /// How many columns from this one on are closed, of those that share its word in `BarredColumns`: each has a positive entry in a row that needs nothing.
+    /// Where more columns are taken than levels are kept there, it is 0, which says nothing. It counts no step.
     pub fn run(&self, column: u32) -> u32
         requires { column < length self.now.system.columns }
+        ensures exact { IsClosedRun self.now column result }
         ensures barred { (k : ℕ) → k < result → IsBarred self.now (column + k) }
         ensures inside { column + result ≤ length self.now.system.columns }
-        ensures few { result ≤ COLUMNS_A_WORD }
     {
         self.barred.run(column)
     }

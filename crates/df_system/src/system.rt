@@ -50,21 +50,10 @@ fn value_in(column: &[Cell], row: u32) -> u32
     requires { (rows : ℕ) × AreCells rows column.now }
     ensures { result ≡ entry_of column.now row }
 {
-    let mut low = 0;
-    let mut high = column.len();
-    while low < high {
-        let middle = low + (high - low) / 2;
-        let cell = column[middle];
-        if cell.row == row {
-            return cell.value;
-        }
-        if cell.row < row {
-            low = middle + 1;
-        } else {
-            high = middle;
-        }
+    match column.binary_search_by_key(&row, |cell| cell.row) {
+        Ok(place) => column[place].value,
+        Err(_) => 0,
     }
-    0
 }
 
 /// The positive entries of columns of this many rows, which stand one after another.
@@ -245,15 +234,6 @@ impl System {
         ensures cost { steps.new ≡ steps.old + 1 }
     {
         steps.tick();
-        value_in(self.column(column), row)
-    }
-
-    /// The entry of a row and a column, for what is made once of all entries. It counts no step.
-    pub(crate) fn value(&self, row: u32, column: u32) -> u32
-        requires row { row < length self.now.targets }
-        requires column { column < length self.now.columns }
-        ensures { result ≡ entry self.now row column }
-    {
         value_in(self.column(column), row)
     }
 

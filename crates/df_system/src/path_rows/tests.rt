@@ -180,7 +180,9 @@ fn assert_columns<L: Ledger>(
 )
     requires columns { plain.columns ≡ length rows.now.system.columns }
 {
-    for column in 0..plain.columns {
+    let mut run: u32 = 0;
+    for later in 0..plain.columns {
+        let column = plain.columns - later - 1;
         let mut fits = true;
         let mut barred = false;
         for row in 0..plain.rows {
@@ -191,7 +193,8 @@ fn assert_columns<L: Ledger>(
             barred = barred || (entry > 0 && taken >= target);
         }
         assert_eq!(rt; rows.fits(column, steps), fits);
-        assert_eq!(rt; rows.run(column) > 0, barred);
+        run = if barred { run.wrapping_add(1) } else { 0 };
+        assert_eq!(rt; rows.run(column), run);
     }
 }
 

@@ -31,3 +31,8 @@ returns-clause-end c =
     let inside : place < length b.barred.items = omega (arith, i.long, place_inside b.top b.kept b.words (c.args.column / 64) c.if-self.false (word_low c.args.column b.words low)) in
     let read = c.index.ensures ∙ get_or_default_zero b.barred.items place c.index.result.now inside in
     rw (← c.self.view_is) (λ _ less. run_end b.system.now b.words b.barred.items (b.top * b.words) levels c.args.column c.ones_from.result c.index.result.now (level_last b.system.now b.words b.kept b.top b.barred.items levels i.trail_is.depth c.if-self.false i.levels_are) low read (c.ones_from.ensures.end less) less)
+
+pub returns-clause-beyond : goal.returns-clause-beyond
+returns-clause-beyond c =
+    let i = c.self.invariant in
+    rw (← c.self.view_is) (λ many. absurd (omega (arith, many, i.kept_is, i.trail_is.depth, i.trail_is.low, c.if-self.false)))

@@ -1,4 +1,4 @@
-use Rattle.std.proofs.Common.{◌≡◌, ◌+◌, ◌≤◌, ◌++◌, ◌∷◌, [], length, ap, sym, subst, ◌∙◌}
+use Rattle.std.proofs.Common.{◌+◌, ◌≤◌, ◌++◌, ◌∷◌, [], length, ap, sym, subst, ◌∙◌}
 use Rattle.df_system.specs.Storage.{cell_count}
 use Rattle.df_system.proofs.MadeColumns.{IsPushed, pushed}
 use Rattle.df_system.proofs.columns.Columns.push.Goals as goal

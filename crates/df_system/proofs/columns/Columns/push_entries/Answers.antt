@@ -1,4 +1,4 @@
-use Rattle.std.proofs.Common.{◌≡◌, ◌+◌, ◌≤◌, ◌<◌, ◌++◌, ◌∷◌, [], length, ap, sym, subst, ◌∙◌, arith, length-append}
+use Rattle.std.proofs.Common.{◌+◌, ◌≤◌, ◌++◌, ◌∷◌, [], length, ap, sym, subst, ◌∙◌, arith, length-append}
 use Rattle.df_system.specs.Storage.{cell_count, columns_of, positive_cells}
 use Rattle.df_system.proofs.PositiveCells.{length-positive_cells}
 use Rattle.df_system.proofs.MadeColumns.{IsPushed, pushed, cells_counted}

@@ -15,5 +15,5 @@ invariant_of-result c =
       deadlines_are = c.in_ok-deadlines.ensures;
       stacked = rw items (stack_none c.args.system.now c.columns.result c.columns.ensures.value);
       rows_are = c.in_ok-rows.ensures;
-      barring_are = barring_first c.bar_first.new.barred c.in_ok-rows.ensures (c.bar_first.ensures.system ∙ ap (λ (b : Barring). b.system) c.in_ok-barred.ensures) c.bar_first.ensures.depth c.bar_first.ensures.filled;
+      barring_are = barring_first c.bar_first.new.barred c.in_ok-rows.ensures (c.bar_first.ensures.same ∙ ap (λ (b : Barring). b.system) c.in_ok-barred.ensures) c.bar_first.ensures.depth c.bar_first.ensures.bar;
     }
