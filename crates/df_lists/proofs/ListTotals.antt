@@ -27,6 +27,11 @@ pub list_total_none : {X : Type 0} (xs : List X) → list_total (λ x. 0) xs ≡
 list_total_none [] = refl
 list_total_none (x ∷ xs) = omega (arith, list_total_none xs)
 
+-- as many members as ones
+pub length_total : {X : Type 0} (xs : List X) → length xs ≡ list_total (λ x. 1) xs
+length_total [] = refl
+length_total (x ∷ xs) = omega (arith, length_total xs)
+
 pub list_total_both : {X : Type 0} (f g : X → ℕ) (xs : List X) → list_total (λ x. f x + g x) xs ≡ list_total f xs + list_total g xs
 list_total_both f g [] = refl
 list_total_both f g (x ∷ xs) = omega (arith, list_total_both f g xs)

@@ -1,7 +1,7 @@
--- What a test picks from a range, with one number more in the range or in the set.
-use Rattle.std.proofs.Common.{◌≡◌, ℕ, zero, suc, ◌+◌, ◌<◌, ◌≤◌, ◌≢◌, Bool, true, false, cond, eqb, ltb, [], ◌∷◌, ◌++◌, filter, sym, ap, ◌∙◌, refl, arith, tests, inl, inr}
-use Rattle.std.proofs.lemmas.Bool.{cases_lt}
-use Rattle.std.specs.List.{range_with_len}
+-- What a test picks from a range, with one number more in the range or in the set; and a range in which it finds none.
+use Rattle.std.proofs.Common.{◌≡◌, ℕ, zero, suc, ◌+◌, ◌<◌, ◌≤◌, ◌≢◌, Bool, true, false, cond, eqb, ltb, [], ◌∷◌, ◌++◌, filter, Some, None, sym, ap, ◌∙◌, refl, arith, tests, inl, inr}
+use Rattle.std.proofs.lemmas.Bool.{cases_lt, cases_eq, cases_Bool}
+use Rattle.std.specs.List.{range_with_len, find}
 use Rattle.std.proofs.lemmas.List.{map-id}
 use Rattle.std.proofs.lemmas.List.Elements.{filter-append}
 use Rattle.std.proofs.lemmas.List.FromFn.{map-range_with_len_more}
@@ -63,3 +63,15 @@ module _ (s t : ℕ → Bool) (p : ℕ) (hit : t p ≡ true) (others : (i : ℕ)
         | inl l ↦ placed_later a n l (placed (a + 1) n (omega arith) (omega arith)) (s a) refl
         | inr r ↦ placed_here a n (omega arith) (s a) refl
       ]
+
+-- where nothing is found, none passes
+pub none_in_range : (t : ℕ → Bool) (a n i : ℕ) → find t (range_with_len a n) ≡ None → a ≤ i → i < a + n → t i ≡ false
+none_in_range t a zero i h low high = absurd (omega arith)
+none_in_range t a (suc n) i h low high =
+    elim (cases_Bool (t a)) [
+      | inl here ↦ absurd (let e : Some a ≡ None = rw here at h in cc)
+      | inr not_here ↦ elim (cases_eq i a) [
+        | inl same ↦ rw same not_here
+        | inr other ↦ none_in_range t (a + 1) n i (rw not_here at h) (omega arith) (omega arith)
+      ]
+    ]

@@ -1,7 +1,7 @@
 -- Tests over the members of lists, and what a test picks.
 use Rattle.std.proofs.Common.{◌≡◌, ℕ, Bool, true, false, cond, ◌&&◌, List, [], ◌∷◌, map, filter, refl, sym, ap, ◌∙◌, subst, inl, inr, ◌⊎◌, eqb, eq-eqb, eqb-true, ◌||◌, ◌+◌, ◌<◌, length, take, get_or}
 use Rattle.std.specs.List.{list_any, list_all}
-use Rattle.std.proofs.lemmas.Bool.{false≢true, or_cases, or_left, or_right, and_parts, and_from}
+use Rattle.std.proofs.lemmas.Bool.{false≢true, or_cases, or_left, or_right, or_parts, and_parts, and_from}
 use Rattle.std.proofs.lemmas.List.{take_more}
 use Rattle.std.proofs.lemmas.List.Folds.{list_any-append}
 use Rattle.df_lists.specs.Membership.{In}
@@ -13,6 +13,13 @@ same_tests true true f g = refl
 same_tests false false f g = refl
 same_tests true false f g = sym (f refl)
 same_tests false true f g = g refl
+
+-- none of three tests
+pub none_of_three : (a b c : Bool) → (a || b || c) ≡ false → (a ≡ false) × (b ≡ false) × (c ≡ false)
+none_of_three a b c h =
+    let last = or_parts (a || b) c h in
+    let earlier = or_parts a b last.0 in
+    (earlier.0, earlier.1, last.1)
 
 pub any_from : {X : Type 0} (t : X → Bool) (xs : List X) (x : X) → In xs x → t x ≡ true → list_any t xs ≡ true
 any_from t [] x i h = absurd i
