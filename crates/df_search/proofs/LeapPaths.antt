@@ -3,6 +3,8 @@ use Rattle.std.proofs.Common.{◌≡◌, ◌<◌, ℕ, zero, suc, ◌+◌, ◌�
 use Rattle.std.specs.Prelude.{◌⊎◌, replicate, nat_lt, not, ◌||◌, find}
 use Rattle.std.specs.List.{range_with_len}
 use Rattle.std.proofs.lemmas.Bool.{true≢false, false≢true, cases_Bool, cases_eq, cases_lt, lt-ltb}
+use Rattle.df_lists.proofs.RangeLaws.{none_in_range}
+use Rattle.df_lists.proofs.TestLaws.{none_of_three}
 use Rattle.df_walk.specs.declared.Rules.{Rules}
 use Rattle.df_walk.specs.declared.Rules.TheVariants.{Plain, Divisor}
 use Rattle.df_walk.specs.declared.Entry.TheVariants as entry
@@ -16,31 +18,13 @@ use Rattle.df_search.specs.Leaps.{IsLeap, Leaps, is_leaf}
 use Rattle.df_search.proofs.StandingPaths.{length-nos, trail_nos}
 use Rattle.df_search.proofs.YesColumns.{taken-yes, trail_taken, same_over, same_short, same_residue, held_settled}
 
--- where no row is found, none passes
-find_none-at : (p : ℕ → Bool) (a n r : ℕ) → find p (range_with_len a n) ≡ None → a ≤ r → r < a + n → p r ≡ false
-find_none-at p a zero r h low high = absurd (omega arith)
-find_none-at p a (suc n) r h low high =
-    elim (cases_Bool (p a)) [
-      | inl here ↦ absurd (let e : Some a ≡ None = rw here at h in cc)
-      | inr not_here ↦ elim (cases_eq r a) [
-        | inl same ↦ rw same not_here
-        | inr other ↦ find_none-at p (a + 1) n r (rw not_here at h) (omega arith) (omega arith)
-      ]
-    ]
-
 -- a row that passes is found
 found_some : (s : System) (p : ℕ → Bool) (row : ℕ) → row < length s.targets → p row ≡ true → (r : ℕ) × (least_row s p ≡ Some r)
 found_some s p row within passes = go (least_row s p) refl
   where
     go : (o : Option ℕ) → least_row s p ≡ o → (r : ℕ) × (least_row s p ≡ Some r)
     go (Some r) is = (r, is)
-    go None is = absurd (true≢false (sym passes ∙ find_none-at p 0 (length s.targets) row is (omega arith) (omega arith)))
-
-none_of_three : (a b c : Bool) → (a || b || c) ≡ false → (a ≡ false) × (b ≡ false) × (c ≡ false)
-none_of_three true b c h = absurd (true≢false h)
-none_of_three false true c h = absurd (true≢false h)
-none_of_three false false true h = absurd (true≢false h)
-none_of_three false false false h = (refl, refl, refl)
+    go None is = absurd (true≢false (sym passes ∙ none_in_range p 0 (length s.targets) row is (omega arith) (omega arith)))
 
 one_of_three : (a b c : Bool) → (a || b || c) ≡ true → (a ≡ true) ⊎ ((b ≡ true) ⊎ (c ≡ true))
 one_of_three true b c h = inl refl

@@ -173,7 +173,7 @@ impl<'m> Search<'m> {
         })
     }
 
-    /// A search at a node: the part of the walk that isn't before it remains. It may be asked for its place.
+    /// A search at a node: the rest of the walk from there on remains. It may be asked for its place.
     ///
     /// `PathRange` comes exactly where the path is longer than the columns, and `NotNode` exactly where it isn't a node, but where memory is wanted.
     /// Of the reasons, a settled proper prefix is told first.

@@ -1,4 +1,4 @@
--- Deadlines by going through a row's columns from the last on.
+-- The deadline that a column brings a need, and that of no need.
 use Rattle.std.proofs.Common.{◌≡◌, ℕ, ◌+◌, ◌<◌, ◌≤◌, List, length, drop, arith}
 use Rattle.df_walk.specs.declared.Rules.TheVariants.{Plain}
 use Rattle.df_walk.specs.Assignments.{total}

@@ -4,6 +4,7 @@ use Rattle.std.specs.Prelude.{find}
 use Rattle.std.specs.List.{list_all, range_with_len}
 use Rattle.std.proofs.lemmas.Bool.{cases_eq, cases_Bool, not-true, not-false}
 use Rattle.std.proofs.lemmas.List.{get_or-set_same, get_or-set_other, length-replicate}
+use Rattle.df_lists.proofs.RangeLaws.{none_in_range}
 use Rattle.df_walk.specs.declared.Cell.{Cell}
 use Rattle.df_walk.specs.declared.Rules.{Rules}
 use Rattle.df_walk.specs.Systems.{System, AreCells, rows_of, entries, entry, entry_of, cells, target}
@@ -201,17 +202,6 @@ barred_nowhere {s} {rules} {chosen} {rows} column column_cells count are is sort
     absurd (omega (arith, barred.3))
 
 -- where no row is found, none passes
-none_in_range : (p : ℕ → Bool) (a n r : ℕ) → find p (range_with_len a n) ≡ None → a ≤ r → r < a + n → p r ≡ false
-none_in_range p a zero r h low high = absurd (omega arith)
-none_in_range p a (suc n) r h low high =
-    elim (cases_Bool (p a)) [
-      | inl here ↦ absurd (let e : Some a ≡ None = rw here at h in cc)
-      | inr not_here ↦ elim (cases_eq r a) [
-        | inl same ↦ rw same not_here
-        | inr other ↦ none_in_range p (a + 1) n r (rw not_here at h) (omega arith) (omega arith)
-      ]
-    ]
-
 pub none_passes : (s : System) (p : ℕ → Bool) (r : ℕ) → least_row s p ≡ None → r < length s.targets → p r ≡ false
 none_passes s p r h within = none_in_range p 0 (length s.targets) r h (omega arith) (omega arith)
 

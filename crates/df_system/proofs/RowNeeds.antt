@@ -5,6 +5,7 @@ use Rattle.std.specs.Int.{◌∣◌}
 use Rattle.std.proofs.lemmas.Bool.{cases_lt, cases_eq, and_parts, and_from, and_left, and_right, not-true, eqb-false}
 use Rattle.std.proofs.Math.Nat.{mod-add-div, add-mul-mod_self_left, mul-mod_right, zero-mod}
 use Rattle.std.proofs.lemmas.Nat.Gcd.{dvd_trans, le_of_dvd, dvd_of_mod-eq-zero, mod-eq-zero_of_dvd}
+use Rattle.df_lists.proofs.TestLaws.{none_of_three}
 use Rattle.df_walk.specs.declared.Rules.{Rules}
 use Rattle.df_walk.specs.declared.Rules.TheVariants.{Plain, Divisor}
 use Rattle.df_walk.specs.Assignments.{total, common_divisor, is_multiple}
@@ -54,11 +55,6 @@ pub third_of : (a b c : Bool) → c ≡ true → (a || b || c) ≡ true
 third_of true b c h = refl
 third_of false true c h = refl
 third_of false false c h = h
-
-pub all_fail : (a b c : Bool) → (a || b || c) ≡ false → (a ≡ false) × (b ≡ false) × (c ≡ false)
-all_fail false false c h = (refl, refl, h)
-all_fail false true c h = absurd (let e = h in cc)
-all_fail true b c h = absurd (let e = h in cc)
 
 -- where nothing is taken: whether the entries from a column on reach the need
 pub reaches_need : (es : List ℕ) (from need : ℕ) → need ≤ total (drop from es) → is_short es from need 0 ≡ false
@@ -188,7 +184,7 @@ residue_stays es i j need h is =
 module _ (es : List ℕ) (need short residue : ℕ) (plain : IsDeadline Plain es need 0 short) (first : IsFirstResidue es need residue) where
   live_before : (from : ℕ) → from < short → from < residue → is_dead Divisor es from need 0 ≡ false
   live_before from s r =
-      let parts = all_fail (ltb need 0) (is_short es from need 0) false (plain.before from s) in
+      let parts = none_of_three (ltb need 0) (is_short es from need 0) false (plain.before from s) in
       none_of (ltb need 0) (is_short es from need 0) (leaves_residue es from need 0) parts.0 parts.1 (first.before from r)
 
   pub residue_first : residue < short → IsDeadline Divisor es need 0 residue
