@@ -1,8 +1,8 @@
 -- A path that is held grows by a yes or by no's, and goes back to its last yes.
-use Rattle.std.proofs.Common.{◌≡◌, ℕ, zero, suc, ◌+◌, ◌-◌, ◌<◌, ◌≤◌, Bool, true, false, List, [], ◌∷◌, ◌++◌, length, set, take, Option, Some, None, refl, sym, ap, ◌∙◌, subst, arith, length-append}
+use Rattle.std.proofs.Common.{◌≡◌, ℕ, ◌+◌, ◌<◌, ◌≤◌, Bool, true, false, List, [], ◌∷◌, ◌++◌, length, set, take, Some, None, refl, sym, ap, subst, arith, length-append}
 use Rattle.std.specs.Prelude.{replicate}
 use Rattle.std.proofs.lemmas.List.{length-take-le}
-use Rattle.df_walk.specs.Systems.{System, IsSystem}
+use Rattle.df_walk.specs.Systems.{IsSystem}
 use Rattle.df_walk.specs.Remains.{turned}
 use Rattle.df_system.specs.declared.limits.TheConstants.{MOST_ENTRIES}
 use Rattle.df_system.specs.PathRows.{Yeses, IsLimit}

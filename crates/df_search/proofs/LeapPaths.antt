@@ -1,18 +1,17 @@
 -- The entry of a path by the limit of its yes columns, and the leaps before the limit.
 use Rattle.std.proofs.Common.{◌≡◌, ◌<◌, ℕ, zero, suc, ◌+◌, ◌≤◌, Bool, true, false, List, [], ◌∷◌, ◌++◌, length, Option, Some, None, refl, sym, ap, ◌∙◌, subst, arith, inl, inr, below_more}
-use Rattle.std.specs.Prelude.{◌⊎◌, replicate, nat_lt, not, ◌||◌, find}
-use Rattle.std.specs.List.{range_with_len}
-use Rattle.std.proofs.lemmas.Bool.{true≢false, false≢true, cases_Bool, cases_eq, cases_lt, lt-ltb}
+use Rattle.std.specs.Prelude.{◌⊎◌, replicate, not, ◌||◌}
+use Rattle.std.proofs.lemmas.Bool.{true≢false, false≢true, cases_lt, lt-ltb}
 use Rattle.df_lists.proofs.RangeLaws.{none_in_range}
 use Rattle.df_lists.proofs.TestLaws.{none_of_three}
 use Rattle.df_walk.specs.declared.Rules.{Rules}
 use Rattle.df_walk.specs.declared.Rules.TheVariants.{Plain, Divisor}
 use Rattle.df_walk.specs.declared.Entry.TheVariants as entry
-use Rattle.df_walk.specs.Systems.{System, entries, entry, target}
+use Rattle.df_walk.specs.Systems.{System, entries, target}
 use Rattle.df_walk.specs.Assignments.{taken, is_over, is_under, has_residue, is_settled, least_row, least_over, least_under, least_residue}
 use Rattle.df_walk.specs.Walks.{decided, entry_at, entry_from, is_branch}
 use Rattle.df_walk.proofs.RowTests.{least_row_none}
-use Rattle.df_system.specs.PathRows.{Yeses, taken_by, has_residue_by, is_dead_from, IsLimit, IsBarred}
+use Rattle.df_system.specs.PathRows.{Yeses, taken_by, has_residue_by, IsLimit, IsBarred}
 use Rattle.df_search.specs.HeldPaths.{IsTrail}
 use Rattle.df_search.specs.Leaps.{IsLeap, Leaps, is_leaf}
 use Rattle.df_search.proofs.StandingPaths.{length-nos, trail_nos}

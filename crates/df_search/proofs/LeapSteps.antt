@@ -1,11 +1,11 @@
 -- A leap passes its nodes and their dead leaves, and no solution.
-use Rattle.std.proofs.Common.{◌≡◌, ◌<◌, ℕ, zero, suc, ◌+◌, ◌≤◌, Bool, true, false, List, [], ◌∷◌, ◌++◌, length, refl, sym, ap, ◌∙◌, arith}
+use Rattle.std.proofs.Common.{◌≡◌, ℕ, zero, suc, ◌+◌, Bool, true, false, List, [], ◌∷◌, ◌++◌, length, refl, sym, ap, ◌∙◌, arith}
 use Rattle.std.specs.Prelude.{replicate}
 use Rattle.std.proofs.lemmas.List.{append_assoc, append-nil}
 use Rattle.df_walk.specs.declared.Rules.{Rules}
 use Rattle.df_walk.specs.declared.Entry.TheVariants as entry
 use Rattle.df_walk.specs.Systems.{System}
-use Rattle.df_walk.specs.Walks.{Step, entry_at, is_branch, solutions_in, nodes_in}
+use Rattle.df_walk.specs.Walks.{Step, entry_at, solutions_in, nodes_in}
 use Rattle.df_walk.specs.Remains.{walk_on, IsVisited}
 use Rattle.df_walk.proofs.WalkSteps.{walk_on_branch, walk_on_over, past_yes}
 use Rattle.df_search.specs.Leaps.{IsLeap, Leaps, leap_steps}

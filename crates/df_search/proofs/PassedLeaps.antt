@@ -8,7 +8,7 @@ use Rattle.df_walk.specs.declared.Rules.{Rules}
 use Rattle.df_walk.specs.declared.Entry.{Entry}
 use Rattle.df_walk.specs.declared.Entry.TheVariants as entry
 use Rattle.df_walk.specs.Systems.{System, widest}
-use Rattle.df_walk.specs.Walks.{Step, entry_at, solution_of, solutions_in, node_of, nodes_in}
+use Rattle.df_walk.specs.Walks.{entry_at, solution_of, solutions_in, node_of, nodes_in}
 use Rattle.df_walk.specs.Remains.{later_walk, walk_on}
 use Rattle.df_walk.proofs.WalkSteps.{walk_on_over, walk_on_under, walk_on_residue}
 use Rattle.df_search.specs.declared.search.State.{State}

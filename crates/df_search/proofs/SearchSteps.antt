@@ -8,11 +8,11 @@ use Rattle.df_walk.specs.declared.Entry.{Entry}
 use Rattle.df_walk.specs.declared.Entry.TheVariants as entry
 use Rattle.df_walk.specs.Systems.{System}
 use Rattle.df_walk.specs.Solutions.{yes_vector}
-use Rattle.df_walk.specs.Walks.{Step, decided, entry_at, is_branch, walk_from, below}
-use Rattle.df_walk.specs.Remains.{later_walk, walk_on, IsVisitedFrom, IsVisited, after_first, turned}
+use Rattle.df_walk.specs.Walks.{Step, decided, entry_at, is_branch}
+use Rattle.df_walk.specs.Remains.{walk_on, IsVisitedFrom, IsVisited, after_first, turned}
 use Rattle.df_walk.proofs.WalkSteps.{walk_on_from, walk_on_first, later_walk-turned, walk_on_over, walk_on_under, walk_on_residue, walk_on_settled, walk_on_branch, branch_leaves}
 use Rattle.df_search.specs.declared.Event.{Event}
-use Rattle.df_search.specs.declared.Event.TheVariants.{Branch, Over, Under, Residue, Solution, Spent, Finished}
+use Rattle.df_search.specs.declared.Event.TheVariants.{Branch, Over, Under, Residue, Solution, Spent}
 use Rattle.df_search.specs.declared.search.State.{State}
 use Rattle.df_search.specs.declared.search.State.TheVariants.{Here, Below, Past, Solved, Done}
 use Rattle.df_search.specs.declared.held_path.Verdict.{Verdict}

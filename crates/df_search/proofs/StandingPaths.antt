@@ -1,7 +1,7 @@
 -- A path that is held, of which the yes columns alone are taken.
-use Rattle.std.proofs.Common.{◌≡◌, ℕ, zero, suc, ◌+◌, ◌-◌, ◌<◌, ◌≤◌, Bool, true, false, List, [], ◌∷◌, ◌++◌, length, set, take, Option, Some, None, refl, sym, ap, ◌∙◌, subst, arith, length-append}
+use Rattle.std.proofs.Common.{◌≡◌, ℕ, zero, suc, ◌+◌, ◌-◌, ◌<◌, ◌≤◌, Bool, true, false, List, [], ◌∷◌, ◌++◌, length, set, take, Some, None, refl, sym, ap, ◌∙◌, arith, length-append}
 use Rattle.std.specs.Prelude.{replicate}
-use Rattle.std.proofs.lemmas.List.{append_assoc, append-nil, set_at, length-take-le, length-replicate}
+use Rattle.std.proofs.lemmas.List.{append_assoc, append-nil, set_at, length-replicate}
 use Rattle.std.proofs.Math.Seq.{take-append_seam}
 use Rattle.df_walk.specs.Remains.{after_first, turned}
 use Rattle.df_walk.proofs.PaddedPaths.{turned_yes}

@@ -1,9 +1,7 @@
 -- What the rows of a path have, by its yes columns: the same as by its decisions.
-use Rattle.std.proofs.Common.{◌≡◌, ◌<◌, ℕ, zero, suc, ◌+◌, ◌≤◌, Bool, true, false, List, [], ◌∷◌, ◌++◌, length, drop, Option, Some, None, refl, sym, ap, ◌∙◌, arith, inl, inr, length-append}
-use Rattle.std.specs.Prelude.{replicate, nat_lt, not, ◌&&◌, ◌||◌, ◌%◌, ◌==◌, find, slice_index}
-use Rattle.std.specs.List.{list_all, range_with_len}
-use Rattle.std.proofs.lemmas.Bool.{true≢false}
-use Rattle.std.proofs.lemmas.List.{append_assoc, append-nil, length-replicate}
+use Rattle.std.proofs.Common.{◌≡◌, ℕ, zero, suc, ◌+◌, Bool, true, false, List, [], ◌∷◌, ◌++◌, length, drop, refl, sym, ap, ◌∙◌, arith}
+use Rattle.std.specs.Prelude.{replicate, nat_lt, not, ◌&&◌, ◌%◌, ◌==◌, slice_index}
+use Rattle.std.specs.List.{list_all}
 use Rattle.df_walk.specs.declared.Rules.{Rules}
 use Rattle.df_walk.specs.declared.Rules.TheVariants.{Plain, Divisor}
 use Rattle.df_walk.specs.Systems.{System, rows_of, entries, entry, target}
@@ -11,7 +9,7 @@ use Rattle.df_walk.specs.Assignments.{total, taken, cap, divisor, common_divisor
 use Rattle.df_walk.specs.Walks.{decided}
 use Rattle.df_walk.proofs.RowTests.{least_row_agrees, rows_agree}
 use Rattle.df_walk.proofs.DecisionLaws.{open_values-decided}
-use Rattle.df_system.specs.PathRows.{Yeses, taken_in, taken_by, is_over_in, is_met_in, is_short_from, has_residue_from, has_residue_by, divisor_from, is_dead_from, least_residue_by}
+use Rattle.df_system.specs.PathRows.{Yeses, taken_in, taken_by, is_over_in, is_met_in, is_short_from, has_residue_from, divisor_from, least_residue_by}
 use Rattle.df_search.specs.HeldPaths.{IsTrail}
 
 nos_take_none : (es : List ℕ) (n : ℕ) → taken es (decided (replicate n false)) ≡ 0

@@ -1,4 +1,4 @@
-use Rattle.std.proofs.Common.{◌≡◌, ◌<◌, ◌+◌, ◌∙◌, ap, arith, length, take, refl, List, Bool}
+use Rattle.std.proofs.Common.{◌+◌, ap, arith, length, refl, List, Bool}
 use Rattle.df_walk.specs.Systems.{widest}
 use Rattle.df_walk.proofs.ColumnWidths.{cells_within}
 use Rattle.df_search.specs.HeldPaths.{Held}

@@ -1,4 +1,4 @@
-use Rattle.std.proofs.Common.{take, refl, sym}
+use Rattle.std.proofs.Common.{take, refl}
 use Rattle.df_search.proofs.HeldSteps.{held_length}
 use Rattle.df_search.proofs.JudgedPaths.{judged_over, judged_under, judged_residue, judged_none}
 use Rattle.df_search.proofs.held_path.HeldPath.judge_rows.Goals as goal

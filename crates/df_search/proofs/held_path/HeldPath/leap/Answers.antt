@@ -1,4 +1,4 @@
-use Rattle.std.proofs.Common.{◌≡◌, ◌<◌, ◌+◌, ◌-◌, ◌*◌, ◌≤◌, ◌∙◌, ap, sym, subst, refl, arith, length, take, List, Bool, ℕ, mul-le-mul_left}
+use Rattle.std.proofs.Common.{◌≡◌, ◌<◌, ◌+◌, ◌-◌, ◌*◌, ◌≤◌, ap, sym, subst, arith, length, take, List, Bool, mul-le-mul_left}
 use Rattle.df_walk.specs.Systems.{widest}
 use Rattle.df_walk.proofs.ColumnWidths.{cells_within}
 use Rattle.df_system.specs.PathRows.{IsBarred}

@@ -1,4 +1,4 @@
-use Rattle.std.proofs.Common.{◌≡◌, ◌+◌, ◌-◌, ◌*◌, ◌≤◌, length}
+use Rattle.std.proofs.Common.{◌+◌, ◌-◌, ◌*◌, ◌≤◌}
 use Rattle.df_walk.specs.Systems.{widest}
 use Rattle.df_search.specs.Leaps.{Leaps}
 use Rattle.df_search.proofs.held_path.HeldPath.leap.Given as goal

@@ -1,4 +1,4 @@
-use Rattle.std.proofs.Common.{◌≡◌, ◌<◌, ◌+◌, ◌*◌, ◌≤◌, ◌∙◌, ◌∷◌, ◌++◌, [], false, ap, arith, length, refl, sym, length-append, mul-le-mul_left}
+use Rattle.std.proofs.Common.{◌≡◌, ◌+◌, ◌*◌, ◌≤◌, ◌∷◌, ◌++◌, [], false, ap, arith, length, refl, length-append, mul-le-mul_left}
 use Rattle.df_walk.specs.Systems.{widest}
 use Rattle.df_walk.proofs.ColumnWidths.{cells_within}
 use Rattle.df_search.proofs.HeldSteps.{held_length, moves_none, moves_turned}

@@ -1,5 +1,4 @@
-use Rattle.std.proofs.Common.{◌∙◌, ap, sym, []}
-use Rattle.df_search.specs.Searches.{search_of, stopped, ended}
+use Rattle.df_search.specs.Searches.{search_of}
 use Rattle.df_search.proofs.SearchSteps.{came, came_none, ready, same_search, same_end}
 use Rattle.df_search.proofs.search.Search.come.Goals as goal
 

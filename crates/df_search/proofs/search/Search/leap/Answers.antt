@@ -1,7 +1,7 @@
-use Rattle.std.proofs.Common.{◌≡◌, ◌+◌, ◌-◌, ◌*◌, ◌∙◌, ap, sym, arith, length, List, Bool}
+use Rattle.std.proofs.Common.{◌≡◌, ◌+◌, ◌-◌, ◌*◌, ◌∙◌, ap, arith, length}
 use Rattle.df_walk.specs.Systems.{widest}
 use Rattle.df_search.proofs.LeapSteps.{leaps_visited}
-use Rattle.df_search.proofs.SearchSteps.{asked_fit, asked_again}
+use Rattle.df_search.proofs.SearchSteps.{asked_fit}
 use Rattle.df_search.proofs.StandingPaths.{length-nos}
 use Rattle.df_search.proofs.PassedLeaps.{PassesLeap, passes_leap}
 use Rattle.df_search.specs.Searches.{search_of}
