@@ -1,12 +1,13 @@
 -- Steps that a writer of a run passes, and the run that is left.
 use Rattle.std.proofs.Common.{◌≡◌, ◌++◌, ◌∷◌, [], ℕ, ◌+◌, ◌<◌, ◌≤◌, Bool, true, false, List, length, map, Option, None, Some, Result, Ok, Err, refl, sym, ap, ap₂, ◌∙◌, subst, arith, append-nil, append_assoc, length-append}
 use Rattle.std.specs.Prelude.{IfOk, IsNone}
+use Rattle.std.specs.Result.{IsErr}
 use Rattle.std.specs.List.{flat_map, AllByRecursion}
 use Rattle.std.proofs.lemmas.Grind.{flat_map-append}
 use Rattle.std.proofs.lemmas.List.Elements.{filter_map-append}
 use Rattle.df_io.specs.Writing.{Writes}
 use Rattle.df_io.specs.declared.bytes.WriteFault.{WriteFault}
-use Rattle.df_io.proofs.Writing.{writes_nothing, writes_as, writes_then}
+use Rattle.df_io.proofs.Writing.{writes_nothing, writes_as, writes_then, writes_stopped}
 use Rattle.df_walk.specs.declared.Entry.{Entry}
 use Rattle.df_walk.specs.declared.Entry.TheVariants.{Branch, Over, Under, Settled, Residue, Cut}
 use Rattle.df_walk.specs.Systems.{System}
@@ -28,7 +29,7 @@ use Rattle.df_tell.specs.declared.run.Counts.{Counts}
 use Rattle.df_tell.specs.declared.run.RunEnd.{RunEnd}
 use Rattle.df_tell.specs.declared.run.RunEnd.TheVariants.{Finished, Spent}
 use Rattle.df_tell.specs.Run.{step_lines, design_lines, solution_lines, as_written}
-use Rattle.df_tell.specs.RunSteps.{IsOf, AreCounted, run_left, Tells, IsOver, EndsOrGoesOn}
+use Rattle.df_tell.specs.RunSteps.{IsOf, AreCounted, run_left, Tells, stop_at, IsOver, EndsOrGoesOn, IsRan}
 use Rattle.df_tell.proofs.SilentRuns.{silent_lines}
 
 -- each solution stands at a node
@@ -193,3 +194,43 @@ pub goes_on_shorter : (result : Result (Option RunEnd) WriteFault) (q new : Sear
 goes_on_shorter (Ok None) q new left none fewer = fewer
 goes_on_shorter (Ok (Some end)) q new left none fewer = absurd (let h = none in cc)
 goes_on_shorter (Err e) q new left none fewer = tt
+
+-- the run of which steps were passed: these, and those of the run left
+pub tells_run : {K : Type 0} {w : K → Option (List ℕ)} {f : K → ℕ} {shown : Shown} {s : Stated} {q new : Remaining} {c d : Counts} {a b : K} {r : Result (Unit {0}) WriteFault}
+    → AreCounted q.search → (tells : Tells w f shown s q new c d a b r) → run_left q.search c.left ≡ then_run (record { taken = tells.steps; stop = None }) (run_left new.search d.left)
+tells_run {q = q} {new = new} {c = c} {d = d} counted tells = run_passed q.search new.search tells.steps c.left d.left counted tells.joined tells.nodes tells.system tells.rules
+
+-- the text of the steps of a run, of which a text was written before the sink failed
+pub stopped_text : {K : Type 0} {w : K → Option (List ℕ)} {f : K → ℕ} {shown : Shown} {s : Stated} {q new : Remaining} {c d : Counts} {a b : K} {e : WriteFault} {r : Result (Unit {0}) WriteFault}
+    → AreCounted q.search → Tells w f shown s q new c d a b (Err e) → IsErr r → Writes w f a b (flat_map (step_lines shown s) (run_left q.search c.left).taken) r
+stopped_text {shown = shown} {s = s} {new = new} {d = d} counted tells err =
+    let more = (run_left new.search d.left).taken in
+    writes_as (sym (flat_map-append (step_lines shown s) tells.steps more) ∙ ap (λ run. flat_map (step_lines shown s) run.taken) (sym (tells_run counted tells)))
+    (writes_stopped (flat_map (step_lines shown s) more) tells.writes err)
+
+-- where the run left is over, the run is the steps that were passed
+pub over_run : {K : Type 0} {w : K → Option (List ℕ)} {f : K → ℕ} {shown : Shown} {s : Stated} {q new : Remaining} {c d : Counts} {a b : K} {r : Result (Unit {0}) WriteFault} {end : RunEnd}
+    → AreCounted q.search → (tells : Tells w f shown s q new c d a b r) → IsOver new.search d.left end → run_left q.search c.left ≡ record { taken = tells.steps; stop = stop_at end new.search }
+over_run {new = new} {end = end} counted tells over =
+    tells_run counted tells ∙ ap (then_run (record { taken = tells.steps; stop = None })) over.run
+    ∙ ap (λ l. record { taken = l; stop = stop_at end new.search }) (append-nil tells.steps)
+
+pub over_text : {K : Type 0} {w : K → Option (List ℕ)} {f : K → ℕ} {shown : Shown} {s : Stated} {q new : Remaining} {c d : Counts} {a b : K} {r : Result (Unit {0}) WriteFault} {end : RunEnd}
+    → AreCounted q.search → Tells w f shown s q new c d a b r → IsOver new.search d.left end → Writes w f a b (flat_map (step_lines shown s) (run_left q.search c.left).taken) r
+over_text {shown = shown} {s = s} counted tells over = writes_as (ap (λ run. flat_map (step_lines shown s) run.taken) (sym (over_run counted tells over))) tells.writes
+
+pub over_ran : {K : Type 0} {w : K → Option (List ℕ)} {f : K → ℕ} {shown : Shown} {s : Stated} {q new : Remaining} {c d : Counts} {a b : K} {r : Result (Unit {0}) WriteFault} {end : RunEnd} (nodes : ℕ)
+    → AreCounted q.search → Tells w f shown s q new c d a b r → IsOver new.search d.left end → c.designs ≡ 0 → nodes + d.left ≡ c.left
+    → IsRan s (run_left q.search c.left) new.search (record { end = end; designs = d.designs; nodes = nodes })
+over_ran {s = s} {new = new} {d = d} {end = end} nodes counted tells over zero visited =
+    let run = sym (over_run counted tells over) in
+    record {
+      designs = omega (arith, tells.designs, zero, ap (λ run. length (solutions_in (orbit_system s) run.taken)) run);
+      nodes = omega (arith, tells.nodes, visited, ap (λ run. length (nodes_in run.taken)) run);
+      stop = ap (λ run. run.stop) (over_run counted tells over);
+      place = over.place;
+    }
+
+pub err_written : {A : Type 0} (r : Result A WriteFault) → IsErr r → IsErr (as_written r)
+err_written (Ok x) err = absurd (let h = err in cc)
+err_written (Err e) err = err
