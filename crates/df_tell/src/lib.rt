@@ -9,6 +9,9 @@ mod limits;
 mod matrix;
 mod orbits;
 mod refusal;
+mod run;
+#[cfg(test)]
+mod run_tests;
 mod table;
 mod usage;
 mod verdict;
@@ -18,6 +21,7 @@ pub use limits::{Limit, write_limit};
 pub use matrix::write_matrix;
 pub use orbits::write_orbits;
 pub use refusal::write_refusal;
+pub use run::{RunEnd, Shown, write_run};
 pub use table::write_table;
 pub use usage::write_usage;
 pub use verdict::write_verdict;
