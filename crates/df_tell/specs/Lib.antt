@@ -5,6 +5,8 @@ pub mod Limits
 pub mod Matrix
 pub mod Orbits
 pub mod Refusal
+pub mod Run
+pub mod RunSteps
 pub mod Table
 pub mod Usage
 pub mod Verdict

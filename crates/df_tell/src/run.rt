@@ -1,0 +1,467 @@
+// The text of a run: a dossier, whose designs are printed as the search comes to them.
+// A run without a log asks for one design after another, so that the search may leap over the entries between; a run with
+// a log asks for each entry. Both write what is defined of the run's steps. A step is told by what it does to the run that
+// remains (specs/RunSteps), so one loop goes through both.
+ghost use Rattle.std.specs.Prelude.{◌≡◌, ◌≤◌, ◌<◌, ◌+◌, ◌^◌, ◌++◌, ◌∷◌, [], ℕ, List, Bool, true, false, codes, decimal, length, Some, IfOk, IsSome, IsNone};
+ghost use Rattle.std.specs.List.{flat_map};
+ghost use Rattle.df_lists.specs.Membership.{In};
+ghost use Rattle.df_io.specs.Joined.{spaced};
+ghost use Rattle.df_io.specs.Writing.{Writes};
+ghost use Rattle.df_walk.specs.Solutions.{chosen_columns};
+ghost use Rattle.df_walk.specs.declared.Entry.TheVariants.{Settled};
+ghost use Rattle.df_runs.specs.Runs.{run_of};
+ghost use Rattle.df_kramer_mesner.specs.OrbitSystems.{orbit_system};
+ghost use Rattle.df_dossier.specs.Designs.{block_piece};
+ghost use Rattle.df_dossier.specs.Entries.{entry_text};
+ghost use Rattle.df_dossier.specs.Paths.{end_tokens};
+ghost use Rattle.df_tell.specs.declared.run.RunEnd.TheVariants.{Spent};
+ghost use Rattle.df_tell.specs.Run.{head_text, source_text, from_text, path_end, blocks_from, design_line, block_comment, solution_lines, step_lines, end_text, run_text, run_end, as_written, MayRun};
+ghost use Rattle.df_tell.specs.RunSteps.{columns_text, IsOf, AreCounted, run_left, Tells, stop_at, EndsOrGoesOn, IsRan};
+
+use crate::canonical::write_canonical;
+use crate::counts::fill_count;
+use df_design::{Blocks, Designs, Event, PathView, Reps, Rules, Turn};
+use df_dossier::{
+    Entry, put_design_block, put_design_start, put_end, put_entry, put_path_column, put_path_start,
+};
+use df_io::{LineBuf, Sink, WriteFault, put_text, write_all};
+use df_lang::{Problem, block_text_is_short, line_count, problems_keep_their_rules, put_block};
+use df_steps::Steps;
+use df_subsets::{Block, candidates_are_all, subsets_are_all};
+use std::sync::ledger::Ledger;
+
+/// What a dossier shows beside its designs.
+#[derive(Clone, Copy, Debug, PartialEq, Eq)]
+pub struct Shown {
+    /// A line for each entry.
+    pub log: bool,
+    /// Behind each design line a comment line for each block of the design.
+    pub blocks: bool,
+}
+
+/// How a run ended.
+#[derive(Clone, Copy, Debug, PartialEq, Eq)]
+pub enum RunEnd {
+    /// No entry remains.
+    Finished,
+    /// A node remains that the budget doesn't allow.
+    Spent,
+}
+
+// What was printed of a run so far, and what it may still visit.
+struct Counts {
+    // how many designs were printed
+    designs: u64,
+    // how many nodes the budget still allows
+    left: u64,
+}
+
+// What a run was, once it ended.
+struct Ran {
+    end: RunEnd,
+    designs: u64,
+    nodes: u64,
+}
+
+/// Writes the text of the run of this budget from where the search stands, and says how the run ended.
+/// `designs` are those of the problem and may be asked for their place; they go by the rules. It takes no memory.
+pub fn write_run<K: Sink, L: Ledger>(
+    problem: &Problem,
+    designs: &mut Designs<'_>,
+    rules: Rules,
+    budget: u64,
+    shown: Shown,
+    out: &mut K,
+    steps: &mut Steps<L>,
+) -> Result<RunEnd, WriteFault>
+    requires { MayRun rules problem.now designs.old }
+    ensures written { (p : List Bool) → designs.old.search.place ≡ Some p
+        → Writes K.written K.faults out.old out.new
+        (run_text rules problem.now shown p (run_of rules (orbit_system problem.now) p budget)) (as_written result) }
+    ensures end { (p : List Bool) → designs.old.search.place ≡ Some p
+        → IfOk result (λ end. end ≡ run_end (run_of rules (orbit_system problem.now) p budget).stop) }
+{
+    let mut line = LineBuf::new();
+    write_start(problem, designs.place(), rules, &mut line, out)?;
+    let ran = write_steps(problem, designs, budget, shown, &mut line, out, steps)?;
+    let end = ran.end;
+    write_end(designs, ran, &mut line, out)?;
+    Ok(end)
+}
+
+// Writes the head, the source lines, and the path where the run begins.
+fn write_start<K: Sink>(
+    problem: &Problem,
+    place: PathView<'_>,
+    rules: Rules,
+    line: &mut LineBuf,
+    out: &mut K,
+) -> Result<(), WriteFault>
+    requires { place.length ≡ length place.decisions.now }
+    ensures { Writes K.written K.faults out.old out.new (head_text rules ++ (source_text problem.now ++ from_text place.decisions.now)) result }
+{
+    write_all(out, head(rules))?;
+    write_source(problem, line, out)?;
+    write_all(out, b"from")?;
+    write_path(place, line, out)
+}
+
+// The head line of a dossier whose search goes by the rules.
+fn head(rules: Rules) -> &'static [u8]
+    ensures { result.now ≡ head_text rules }
+{
+    match rules {
+        Rules::Plain => b"dossier 1\n",
+        Rules::Divisor => b"dossier 2\n",
+    }
+}
+
+// Writes the number of canonical lines, and the lines.
+fn write_source<K: Sink>(
+    problem: &Problem,
+    line: &mut LineBuf,
+    out: &mut K,
+) -> Result<(), WriteFault>
+    ensures { Writes K.written K.faults out.old out.new (source_text problem.now) result }
+{
+    fill_count(line, b"source ", line_count(problem) as u64);
+    write_all(out, line.as_slice())?;
+    write_canonical(problem, out)
+}
+
+// Writes a path as the end of a line, in pieces, since it may have many yes columns.
+fn write_path<K: Sink>(
+    path: PathView<'_>,
+    line: &mut LineBuf,
+    out: &mut K,
+) -> Result<(), WriteFault>
+    requires { path.length ≡ length path.decisions.now }
+    ensures { Writes K.written K.faults out.old out.new (path_end path.decisions.now) result }
+{
+    fill_length(line, path.length);
+    write_all(out, line.as_slice())?;
+    write_columns(path, line, out)?;
+    write_all(out, b"\n")
+}
+
+// Fills the buffer with the length of a path.
+#[tactic(auto, using(df_io::proofs::NumbersBack::decimal_short))]
+fn fill_length(line: &mut LineBuf, columns: u32)
+    ensures { line.new.items ≡ 32 ∷ decimal columns }
+{
+    line.clear();
+    put_path_start(line, columns);
+}
+
+// Writes the yes columns of a path.
+fn write_columns<K: Sink>(
+    path: PathView<'_>,
+    line: &mut LineBuf,
+    out: &mut K,
+) -> Result<(), WriteFault>
+    requires { path.length ≡ length path.decisions.now }
+    ensures { Writes K.written K.faults out.old out.new (columns_text (chosen_columns path.decisions.now)) result }
+{
+    for column in 0..path.length {
+        if path.decisions[column as usize] {
+            fill_column(line, column);
+            write_all(out, line.as_slice())?;
+        }
+    }
+    Ok(())
+}
+
+// Fills the buffer with a yes column of a path.
+#[tactic(auto, using(df_io::proofs::NumbersBack::decimal_short))]
+fn fill_column(line: &mut LineBuf, column: u32)
+    ensures { line.new.items ≡ 32 ∷ decimal column }
+{
+    line.clear();
+    put_path_column(line, column);
+}
+
+// Passes the steps that the budget allows, and writes what is printed of each.
+fn write_steps<K: Sink, L: Ledger>(
+    problem: &Problem,
+    designs: &mut Designs<'_>,
+    budget: u64,
+    shown: Shown,
+    line: &mut LineBuf,
+    out: &mut K,
+    steps: &mut Steps<L>,
+) -> Result<Ran, WriteFault>
+    requires search { IsOf problem.now designs.old }
+    requires counted { AreCounted designs.old.search }
+    ensures written { Writes K.written K.faults out.old out.new
+        (flat_map (step_lines shown problem.now) (run_left designs.old.search budget).taken) (as_written result) }
+    ensures ran { IfOk result (IsRan problem.now (run_left designs.old.search budget) designs.new.search) }
+{
+    let mut counts = Counts {
+        designs: 0,
+        left: budget,
+    };
+    loop {
+        let end = write_step(problem, designs, &mut counts, shown, line, out, steps)?;
+        if let Some(end) = end {
+            return Ok(Ran {
+                end,
+                designs: counts.designs,
+                nodes: budget - counts.left,
+            });
+        }
+    }
+}
+
+// Passes the next step, or without a log all steps up to the next design, and writes what is printed of them; or says how
+// the run ended, where the budget allows no step more that has anything printed.
+fn write_step<K: Sink, L: Ledger>(
+    problem: &Problem,
+    designs: &mut Designs<'_>,
+    counts: &mut Counts,
+    shown: Shown,
+    line: &mut LineBuf,
+    out: &mut K,
+    steps: &mut Steps<L>,
+) -> Result<Option<RunEnd>, WriteFault>
+    requires search { IsOf problem.now designs.old }
+    requires few { counts.old.designs + counts.old.left < 2 ^ 64 }
+    ensures tells { Tells K.written K.faults shown problem.now designs.old designs.new counts.old counts.new out.old out.new (as_written result) }
+    ensures ends { IfOk result (EndsOrGoesOn designs.old.search designs.new.search counts.new.left) }
+{
+    if shown.log {
+        write_entry_step(problem, designs, counts, shown, line, out, steps)
+    } else {
+        write_design_step(problem, designs, counts, shown, line, out, steps)
+    }
+}
+
+// The same with a log: one entry, with its design.
+fn write_entry_step<K: Sink, L: Ledger>(
+    problem: &Problem,
+    designs: &mut Designs<'_>,
+    counts: &mut Counts,
+    shown: Shown,
+    line: &mut LineBuf,
+    out: &mut K,
+    steps: &mut Steps<L>,
+) -> Result<Option<RunEnd>, WriteFault>
+    requires search { IsOf problem.now designs.old }
+    requires few { counts.old.designs + counts.old.left < 2 ^ 64 }
+    requires log { shown.log ≡ true }
+    ensures tells { Tells K.written K.faults shown problem.now designs.old designs.new counts.old counts.new out.old out.new (as_written result) }
+    ensures ends { IfOk result (EndsOrGoesOn designs.old.search designs.new.search counts.new.left) }
+{
+    match designs.advance(&mut counts.left, steps) {
+        Event::Branch(column) => goes_on(write_entry(Entry::Branch(column), line, out)),
+        Event::Over(row) => goes_on(write_entry(Entry::Over(row), line, out)),
+        Event::Under(row) => goes_on(write_entry(Entry::Under(row), line, out)),
+        Event::Residue(row, divisor) => goes_on(write_entry(
+            Entry::Residue { row, divisor },
+            line,
+            out,
+        )),
+        Event::Solution => {
+            counts.designs += 1;
+            goes_on(write_settled(problem, designs, shown, line, out))
+        }
+        Event::Spent => Ok(Some(RunEnd::Spent)),
+        Event::Finished => Ok(Some(RunEnd::Finished)),
+    }
+}
+
+// The same without a log: all steps up to the next design.
+fn write_design_step<K: Sink, L: Ledger>(
+    problem: &Problem,
+    designs: &mut Designs<'_>,
+    counts: &mut Counts,
+    shown: Shown,
+    line: &mut LineBuf,
+    out: &mut K,
+    steps: &mut Steps<L>,
+) -> Result<Option<RunEnd>, WriteFault>
+    requires search { IsOf problem.now designs.old }
+    requires few { counts.old.designs + counts.old.left < 2 ^ 64 }
+    requires silent { shown.log ≡ false }
+    ensures tells { Tells K.written K.faults shown problem.now designs.old designs.new counts.old counts.new out.old out.new (as_written result) }
+    ensures ends { IfOk result (EndsOrGoesOn designs.old.search designs.new.search counts.new.left) }
+{
+    match designs.next(&mut counts.left, steps) {
+        Turn::Design => {
+            counts.designs += 1;
+            goes_on(write_design(problem, designs, shown, line, out))
+        }
+        Turn::Spent => Ok(Some(RunEnd::Spent)),
+        Turn::Finished => Ok(Some(RunEnd::Finished)),
+    }
+}
+
+// The answer of a step after which the run may go on.
+fn goes_on(written: Result<(), WriteFault>) -> Result<Option<RunEnd>, WriteFault>
+    ensures same { as_written result ≡ written }
+    ensures none { IfOk result IsNone }
+{
+    match written {
+        Ok(()) => Ok(None),
+        Err(fault) => Err(fault),
+    }
+}
+
+// Writes the line of an entry.
+fn write_entry<K: Sink>(entry: Entry, line: &mut LineBuf, out: &mut K) -> Result<(), WriteFault>
+    requires { length (entry_text entry) < 1024 }
+    ensures { Writes K.written K.faults out.old out.new (entry_text entry ++ 10 ∷ []) result }
+{
+    line.clear();
+    put_entry(line, entry);
+    line.push(b'\n');
+    write_all(out, line.as_slice())
+}
+
+// Writes the line of a settled entry, and the design that was found.
+fn write_settled<K: Sink>(
+    problem: &Problem,
+    designs: &Designs<'_>,
+    shown: Shown,
+    line: &mut LineBuf,
+    out: &mut K,
+) -> Result<(), WriteFault>
+    requires problem { designs.now.problem ≡ problem.now }
+    requires chosen { IsSome designs.now.search.chosen }
+    ensures { Writes K.written K.faults out.old out.new
+        ((entry_text Settled ++ 10 ∷ []) ++ solution_lines shown problem.now designs.now.search.chosen) result }
+{
+    write_entry(Entry::Settled, line, out)?;
+    write_design(problem, designs, shown, line, out)
+}
+
+// Writes the design that was found: its base blocks, and where they are shown its blocks.
+fn write_design<K: Sink>(
+    problem: &Problem,
+    designs: &Designs<'_>,
+    shown: Shown,
+    line: &mut LineBuf,
+    out: &mut K,
+) -> Result<(), WriteFault>
+    requires problem { designs.now.problem ≡ problem.now }
+    requires chosen { IsSome designs.now.search.chosen }
+    ensures { Writes K.written K.faults out.old out.new (solution_lines shown problem.now designs.now.search.chosen) result }
+{
+    subsets_are_all();
+    candidates_are_all();
+    problems_keep_their_rules(problem);
+    write_base(problem, designs.reps(), line, out)?;
+    if shown.blocks {
+        write_comments(problem, designs.blocks(), line, out)
+    } else {
+        Ok(())
+    }
+}
+
+// Writes the line of a design in pieces, since it may have many base blocks.
+fn write_base<K: Sink>(
+    problem: &Problem,
+    blocks: Reps<'_>,
+    line: &mut LineBuf,
+    out: &mut K,
+) -> Result<(), WriteFault>
+    ensures { Writes K.written K.faults out.old out.new (design_line problem.now blocks) result }
+{
+    fill_design_start(line);
+    write_all(out, line.as_slice())?;
+    write_pieces(problem, blocks, line, out)?;
+    write_all(out, b"\n")
+}
+
+// Fills the buffer with the beginning of the line of a design.
+fn fill_design_start(line: &mut LineBuf)
+    ensures { line.new.items ≡ codes "design" }
+{
+    line.clear();
+    put_design_start(line);
+}
+
+// Writes the base blocks of the line of a design, the first one at place 0, and the others behind it.
+fn write_pieces<K: Sink>(
+    problem: &Problem,
+    blocks: Reps<'_>,
+    line: &mut LineBuf,
+    out: &mut K,
+) -> Result<(), WriteFault>
+    ensures { Writes K.written K.faults out.old out.new (blocks_from problem.now.group 0 blocks) result }
+{
+    let mut rest = blocks;
+    let mut place = 0;
+    while let Some(block) = rest.next() {
+        fill_piece(line, problem, &block, place);
+        write_all(out, line.as_slice())?;
+        place = 1;
+    }
+    Ok(())
+}
+
+// Fills the buffer with a block of at most 16 points at a place of the line of a design.
+fn fill_piece(line: &mut LineBuf, problem: &Problem, block: &Block, place: u64)
+    requires { length block.now ≤ 16 }
+    ensures { line.new.items ≡ block_piece problem.now.group block.now place }
+{
+    block_text_is_short(problem, block);
+    line.clear();
+    put_design_block(line, problem, block, place);
+}
+
+// Writes the comment lines of blocks of at most 16 points.
+fn write_comments<K: Sink>(
+    problem: &Problem,
+    blocks: Blocks<'_>,
+    line: &mut LineBuf,
+    out: &mut K,
+) -> Result<(), WriteFault>
+    requires { (block : List ℕ) → In blocks block → length block ≤ 16 }
+    ensures { Writes K.written K.faults out.old out.new (flat_map (block_comment problem.now) blocks) result }
+{
+    let mut rest = blocks;
+    while let Some(block) = rest.next() {
+        fill_comment(line, problem, &block);
+        write_all(out, line.as_slice())?;
+    }
+    Ok(())
+}
+
+// Fills the buffer with the comment line of a block of at most 16 points.
+#[tactic(auto, unfolding(crate::specs::Run::block_comment))]
+fn fill_comment(line: &mut LineBuf, problem: &Problem, block: &Block)
+    requires { length block.now ≤ 16 }
+    ensures { line.new.items ≡ block_comment problem.now block.now }
+{
+    block_text_is_short(problem, block);
+    line.clear();
+    put_text(line, b"# block ");
+    put_block(line, problem, block);
+    line.push(b'\n');
+}
+
+// Writes the end line. Of a spent run it ends with the path where the search stands.
+fn write_end<K: Sink>(
+    designs: &Designs<'_>,
+    ran: Ran,
+    line: &mut LineBuf,
+    out: &mut K,
+) -> Result<(), WriteFault>
+    requires { ran.end ≡ Spent → IsSome designs.now.search.place }
+    ensures { Writes K.written K.faults out.old out.new (end_text ran.designs ran.nodes (stop_at ran.end designs.now.search)) result }
+{
+    fill_end(line, ran.end == RunEnd::Finished, ran.designs, ran.nodes);
+    write_all(out, line.as_slice())?;
+    match ran.end {
+        RunEnd::Finished => write_all(out, b"\n"),
+        RunEnd::Spent => write_path(designs.place(), line, out),
+    }
+}
+
+// Fills the buffer with the end line, of a spent run without its path.
+fn fill_end(line: &mut LineBuf, finished: bool, designs: u64, nodes: u64)
+    ensures { line.new.items ≡ spaced (end_tokens finished designs nodes) }
+{
+    line.clear();
+    put_end(line, finished, designs, nodes);
+}
