@@ -1,5 +1,5 @@
 -- What a writer of a run has passed of it, and what is left.
-use Rattle.std.specs.Prelude.{◌≡◌, ℕ, ◌+◌, ◌<◌, ◌≤◌, Bool, List, [], ◌∷◌, ◌++◌, length, map, decimal, Option, Some, None, Result, IsSome}
+use Rattle.std.specs.Prelude.{◌≡◌, ℕ, ◌+◌, ◌<◌, ◌≤◌, Bool, List, [], ◌∷◌, ◌++◌, length, map, decimal, if◌then◌else◌, Option, Some, None, Result, IsSome}
 use Rattle.std.specs.List.{AllByRecursion, flat_map}
 use Rattle.df_io.specs.Writing.{Writes}
 use Rattle.df_io.specs.declared.bytes.WriteFault.{WriteFault}
@@ -21,6 +21,10 @@ use Rattle.df_tell.specs.Run.{step_lines}
 -- the yes columns of a path, behind its length
 abbrev pub columns_text : List ℕ → List ℕ
 columns_text columns = after_spaces (map decimal columns)
+
+-- a column, where it is a yes column
+abbrev pub column_text : Bool → ℕ → List ℕ
+column_text chosen column = if chosen then 32 ∷ decimal column else []
 
 -- the search goes through the orbit system of the problem
 pub record IsOf (s : Stated) (r : Remaining) : Type 0 where

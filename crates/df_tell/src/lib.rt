@@ -10,6 +10,8 @@ mod matrix;
 mod orbits;
 mod refusal;
 mod run;
+#[cfg(test)]
+mod run_tests;
 mod table;
 mod usage;
 mod verdict;

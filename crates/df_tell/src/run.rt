@@ -4,6 +4,7 @@
 // remains (specs/RunSteps), so one loop goes through both.
 ghost use Rattle.std.specs.Prelude.{◌≡◌, ◌≤◌, ◌<◌, ◌+◌, ◌^◌, ◌++◌, ◌∷◌, [], ℕ, List, Bool, true, false, codes, decimal, length, Some, IfOk, IsSome, IsNone};
 ghost use Rattle.std.specs.List.{flat_map};
+ghost use Rattle.arrayvec.specs.ArrayVec.{array_vec_len};
 ghost use Rattle.df_lists.specs.Membership.{In};
 ghost use Rattle.df_io.specs.Joined.{spaced};
 ghost use Rattle.df_io.specs.Writing.{Writes};
@@ -15,8 +16,8 @@ ghost use Rattle.df_dossier.specs.Designs.{block_piece};
 ghost use Rattle.df_dossier.specs.Entries.{entry_text};
 ghost use Rattle.df_dossier.specs.Paths.{end_tokens};
 ghost use Rattle.df_tell.specs.declared.run.RunEnd.TheVariants.{Spent};
-ghost use Rattle.df_tell.specs.Run.{head_text, source_text, from_text, path_end, blocks_from, design_line, block_comment, solution_lines, step_lines, end_text, run_text, run_end, as_written, MayRun};
-ghost use Rattle.df_tell.specs.RunSteps.{columns_text, IsOf, AreCounted, run_left, Tells, stop_at, EndsOrGoesOn, IsRan};
+ghost use Rattle.df_tell.specs.Run.{head_text, source_text, from_text, path_end, block_pieces, design_line, block_comment, solution_lines, step_lines, end_text, run_text, run_end, as_written, MayRun};
+ghost use Rattle.df_tell.specs.RunSteps.{columns_text, column_text, IsOf, AreCounted, run_left, Tells, stop_at, EndsOrGoesOn, IsRan};
 
 use crate::canonical::write_canonical;
 use crate::counts::fill_count;
@@ -49,6 +50,7 @@ pub enum RunEnd {
 }
 
 // What was printed of a run so far, and what it may still visit.
+#[derive(Drop)]
 struct Counts {
     // how many designs were printed
     designs: u64,
@@ -57,6 +59,7 @@ struct Counts {
 }
 
 // What a run was, once it ended.
+#[derive(Drop)]
 struct Ran {
     end: RunEnd,
     designs: u64,
@@ -98,7 +101,7 @@ fn write_start<K: Sink>(
     out: &mut K,
 ) -> Result<(), WriteFault>
     requires { place.length ≡ length place.decisions.now }
-    ensures { Writes K.written K.faults out.old out.new (head_text rules ++ (source_text problem.now ++ from_text place.decisions.now)) result }
+    ensures { Writes K.written K.faults out.old out.new (head_text rules ++ (source_text problem.now ++ from_text place.entry.decisions.now)) result }
 {
     write_all(out, head(rules))?;
     write_source(problem, line, out)?;
@@ -136,11 +139,11 @@ fn write_path<K: Sink>(
     out: &mut K,
 ) -> Result<(), WriteFault>
     requires { path.length ≡ length path.decisions.now }
-    ensures { Writes K.written K.faults out.old out.new (path_end path.decisions.now) result }
+    ensures { Writes K.written K.faults out.old out.new (path_end path.entry.decisions.now) result }
 {
     fill_length(line, path.length);
     write_all(out, line.as_slice())?;
-    write_columns(path, line, out)?;
+    write_columns(path.length, path.decisions, line, out)?;
     write_all(out, b"\n")
 }
 
@@ -155,20 +158,35 @@ fn fill_length(line: &mut LineBuf, columns: u32)
 
 // Writes the yes columns of a path.
 fn write_columns<K: Sink>(
-    path: PathView<'_>,
+    columns: u32,
+    decisions: &[bool],
     line: &mut LineBuf,
     out: &mut K,
 ) -> Result<(), WriteFault>
-    requires { path.length ≡ length path.decisions.now }
-    ensures { Writes K.written K.faults out.old out.new (columns_text (chosen_columns path.decisions.now)) result }
+    requires { columns ≡ length decisions.now }
+    ensures { Writes K.written K.faults out.old out.new (columns_text (chosen_columns decisions.now)) result }
 {
-    for column in 0..path.length {
-        if path.decisions[column as usize] {
-            fill_column(line, column);
-            write_all(out, line.as_slice())?;
-        }
+    for column in 0..columns {
+        write_column(decisions[column as usize], column, line, out)?;
     }
     Ok(())
+}
+
+// Writes a column of a path, if it is a yes column.
+fn write_column<K: Sink>(
+    chosen: bool,
+    column: u32,
+    line: &mut LineBuf,
+    out: &mut K,
+) -> Result<(), WriteFault>
+    ensures { Writes K.written K.faults out.old out.new (column_text chosen column) result }
+{
+    if chosen {
+        fill_column(line, column);
+        write_all(out, line.as_slice())
+    } else {
+        Ok(())
+    }
 }
 
 // Fills the buffer with a yes column of a path.
@@ -236,6 +254,7 @@ fn write_step<K: Sink, L: Ledger>(
 }
 
 // The same with a log: one entry, with its design.
+#[tactic(auto, using(df_io::proofs::NumbersBack::decimal_short))]
 fn write_entry_step<K: Sink, L: Ledger>(
     problem: &Problem,
     designs: &mut Designs<'_>,
@@ -364,7 +383,7 @@ fn write_base<K: Sink>(
     line: &mut LineBuf,
     out: &mut K,
 ) -> Result<(), WriteFault>
-    ensures { Writes K.written K.faults out.old out.new (design_line problem.now blocks) result }
+    ensures { Writes K.written K.faults out.old out.new (design_line problem.now blocks.entry) result }
 {
     fill_design_start(line);
     write_all(out, line.as_slice())?;
@@ -387,7 +406,7 @@ fn write_pieces<K: Sink>(
     line: &mut LineBuf,
     out: &mut K,
 ) -> Result<(), WriteFault>
-    ensures { Writes K.written K.faults out.old out.new (blocks_from problem.now.group 0 blocks) result }
+    ensures { Writes K.written K.faults out.old out.new (block_pieces problem.now.group 0 blocks.entry) result }
 {
     let mut rest = blocks;
     let mut place = 0;
@@ -417,7 +436,7 @@ fn write_comments<K: Sink>(
     out: &mut K,
 ) -> Result<(), WriteFault>
     requires { (block : List ℕ) → In blocks block → length block ≤ 16 }
-    ensures { Writes K.written K.faults out.old out.new (flat_map (block_comment problem.now) blocks) result }
+    ensures { Writes K.written K.faults out.old out.new (flat_map (block_comment problem.now) blocks.entry) result }
 {
     let mut rest = blocks;
     while let Some(block) = rest.next() {
@@ -450,17 +469,32 @@ fn write_end<K: Sink>(
     requires { ran.end ≡ Spent → IsSome designs.now.search.place }
     ensures { Writes K.written K.faults out.old out.new (end_text ran.designs ran.nodes (stop_at ran.end designs.now.search)) result }
 {
-    fill_end(line, ran.end == RunEnd::Finished, ran.designs, ran.nodes);
-    write_all(out, line.as_slice())?;
     match ran.end {
-        RunEnd::Finished => write_all(out, b"\n"),
-        RunEnd::Spent => write_path(designs.place(), line, out),
+        RunEnd::Finished => {
+            fill_finished(line, ran.designs, ran.nodes);
+            write_all(out, line.as_slice())
+        }
+        RunEnd::Spent => {
+            let place = designs.place();
+            fill_end(line, false, ran.designs, ran.nodes);
+            write_all(out, line.as_slice())?;
+            write_path(place, line, out)
+        }
     }
+}
+
+// Fills the buffer with the end line of a finished run.
+fn fill_finished(line: &mut LineBuf, designs: u64, nodes: u64)
+    ensures { line.new.items ≡ spaced (end_tokens true designs nodes) ++ 10 ∷ [] }
+{
+    fill_end(line, true, designs, nodes);
+    line.push(b'\n');
 }
 
 // Fills the buffer with the end line, of a spent run without its path.
 fn fill_end(line: &mut LineBuf, finished: bool, designs: u64, nodes: u64)
-    ensures { line.new.items ≡ spaced (end_tokens finished designs nodes) }
+    ensures text { line.new.items ≡ spaced (end_tokens finished designs nodes) }
+    ensures short { array_vec_len line.new ≤ 100 }
 {
     line.clear();
     put_end(line, finished, designs, nodes);
