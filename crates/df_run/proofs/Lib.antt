@@ -1,4 +1,5 @@
 pub mod Endings
+pub mod SolvedRuns
 pub mod Headline
 pub mod EntryLimits
 pub mod BlockLimits

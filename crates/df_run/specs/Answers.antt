@@ -1,26 +1,32 @@
 -- What is answered to an input: a status and a text. What a row says stands in the module of that text, in df_tell.
-use Rattle.std.specs.Prelude.{ℕ, List, Option, Some, None, Result, Ok, Err}
+use Rattle.std.specs.Prelude.{ℕ, Bool, List, [], Option, Some, None, Result, Ok, Err}
+use Rattle.df_walk.specs.declared.Rules.TheVariants.{Divisor}
+use Rattle.df_runs.specs.Runs.{Run, run_of}
 use Rattle.df_lang.specs.Problems.{Stated}
 use Rattle.df_lang.specs.Sources.{source}
 use Rattle.df_lang.specs.declared.fault.SourceError.{SourceError}
 use Rattle.df_family.specs.Verdicts.{verdict_on}
 use Rattle.df_family.specs.declared.verdict.Verdict.{Verdict}
 use Rattle.df_family.specs.declared.verdict.Verdict.TheVariants.{Accepted, Refused}
+use Rattle.df_kramer_mesner.specs.OrbitSystems.{orbit_system}
 use Rattle.df_tell.specs.Canonical.{canonical_text}
 use Rattle.df_tell.specs.Table.{table_text}
 use Rattle.df_tell.specs.Verdict.{verdict_text}
 use Rattle.df_tell.specs.Orbits.{orbits_text}
 use Rattle.df_tell.specs.Matrix.{matrix_text}
+use Rattle.df_tell.specs.Run.{run_text}
 use Rattle.df_tell.specs.Refusal.{refusal_text}
 use Rattle.df_tell.specs.Limits.{limit_text}
 use Rattle.df_tell.specs.declared.limits.Limit.{Limit}
+use Rattle.df_tell.specs.declared.run.Shown.{Shown}
+use Rattle.df_words.specs.declared.command.Options.{Options}
 use Rattle.df_run.specs.Limits.{subsets_limit, matrix_limit}
 use Rattle.df_run.specs.declared.statuses.Status.{Status}
 use Rattle.df_run.specs.declared.statuses.Status.TheVariants as ends
 use Rattle.df_run.specs.declared.tasks.Task.{Task}
 use Rattle.df_run.specs.declared.tasks.Task.TheVariants.{Source}
 use Rattle.df_run.specs.declared.tasks.SourceTask.{SourceTask}
-use Rattle.df_run.specs.declared.tasks.SourceTask.TheVariants.{Show, Table, Verify, Orbits, Matrix}
+use Rattle.df_run.specs.declared.tasks.SourceTask.TheVariants.{Show, Table, Verify, Orbits, Matrix, Solve}
 
 pub record Answer : Type 0 where
   pub status : Status
@@ -32,10 +38,10 @@ done text = record { status = ends.Done; text = text }
 abbrev pub bad_input : List ℕ → Answer
 bad_input text = record { status = ends.BadInput; text = text }
 
--- the text of a problem within a limit, and else the limit that it is above
-abbrev pub within : Option Limit → List ℕ → Answer
-within None text = done text
-within (Some limit) text = bad_input (limit_text limit)
+-- the answer to a problem within a limit, and else the limit that it is above
+abbrev pub within : Option Limit → Answer → Answer
+within None answer = answer
+within (Some limit) answer = bad_input (limit_text limit)
 
 abbrev pub verdict_status : Verdict → Status
 verdict_status (Accepted blocks) = ends.Done
@@ -44,13 +50,26 @@ verdict_status (Refused row found stated) = ends.Refused
 abbrev pub verdict_answer : Stated → Verdict → Answer
 verdict_answer s verdict = record { status = verdict_status verdict; text = verdict_text s verdict }
 
--- what is answered to a problem
+-- what a search shows beside its designs
+abbrev pub shown_by : Options → Shown
+shown_by options = record { log = options.log; blocks = options.blocks }
+
+-- a search is done where nothing remains, and spent where it stopped at a node
+abbrev pub stop_status : Option (List Bool) → Status
+stop_status None = ends.Done
+stop_status (Some place) = ends.Spent
+
+abbrev pub run_answer : Stated → Options → Run → Answer
+run_answer s options run = record { status = stop_status run.stop; text = run_text Divisor s (shown_by options) [] run }
+
+-- what is answered to a problem; a search goes by the rules with divisors, from the empty path
 abbrev pub answer_on : SourceTask → Stated → Answer
 answer_on Show s = done (canonical_text s)
 answer_on Table s = done (table_text s)
 answer_on Verify s = verdict_answer s (verdict_on s)
-answer_on Orbits s = within (subsets_limit s) (orbits_text s)
-answer_on Matrix s = within (matrix_limit s) (matrix_text s)
+answer_on Orbits s = within (subsets_limit s) (done (orbits_text s))
+answer_on Matrix s = within (matrix_limit s) (done (matrix_text s))
+answer_on (Solve options) s = within (matrix_limit s) (run_answer s options (run_of Divisor (orbit_system s) [] options.budget))
 
 -- to a source, or to an input that is none
 abbrev pub answer_to : SourceTask → Result Stated SourceError → Answer

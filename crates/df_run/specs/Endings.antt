@@ -13,6 +13,7 @@ use Rattle.df_run.specs.declared.statuses.Status.{Status}
 use Rattle.df_run.specs.declared.statuses.Status.TheVariants as ends
 use Rattle.df_run.specs.declared.tasks.Task.{Task}
 use Rattle.df_run.specs.declared.tasks.Task.TheVariants.{Source}
+use Rattle.df_run.specs.declared.tasks.SourceTask.TheVariants.{Show, Table, Verify, Orbits, Matrix, Solve}
 
 -- the text was written and the status answered, or the sink failed before the text's end
 abbrev pub Replies : Answer → Outgoing → Status → Type 0
@@ -30,7 +31,12 @@ IsAnswered task i o result = OfInput task i (λ bytes. (result ≡ (answer task 
 
 -- the answer to a task may be that a budget is spent
 abbrev pub HasBudget : Task → Type 0
-HasBudget (Source task) = ⊥
+HasBudget (Source Show) = ⊥
+HasBudget (Source Table) = ⊥
+HasBudget (Source Verify) = ⊥
+HasBudget (Source Orbits) = ⊥
+HasBudget (Source Matrix) = ⊥
+HasBudget (Source (Solve options)) = Unit {0}
 
 -- when a task ends with each status, and what was then read and written
 abbrev pub Answers : Task → Incoming → Outgoing → Status → Type 0

@@ -3,7 +3,7 @@ use Rattle.df_words.specs.declared.command.Command.{Command}
 use Rattle.df_words.specs.declared.command.Command.TheVariants as command
 use Rattle.df_run.specs.declared.tasks.Task.{Task}
 use Rattle.df_run.specs.declared.tasks.Task.TheVariants.{Source}
-use Rattle.df_run.specs.declared.tasks.SourceTask.TheVariants.{Show, Table, Verify, Orbits, Matrix}
+use Rattle.df_run.specs.declared.tasks.SourceTask.TheVariants.{Show, Table, Verify, Orbits, Matrix, Solve}
 
 abbrev pub task_of : Command → Task
 task_of command.Show = Source Show
@@ -11,3 +11,4 @@ task_of command.Table = Source Table
 task_of command.Verify = Source Verify
 task_of command.Orbits = Source Orbits
 task_of command.Matrix = Source Matrix
+task_of (command.Solve options) = Source (Solve options)

@@ -7,6 +7,7 @@ ghost use Rattle.df_run.specs.Streams.{outgoing};
 use crate::limits::LimitError;
 use crate::matrix::matrix_of_problem;
 use crate::orbits::orbits_of_problem;
+use crate::solve::answer_solve;
 use crate::statuses::Status;
 use crate::tasks::{SOURCE_BYTES, SourceTask, Task};
 use df_family::{Verdict, difference_table, verify};
@@ -47,6 +48,7 @@ fn answer_problem<O: Sink>(
         SourceTask::Verify => answer_verify(alloc, problem, out),
         SourceTask::Orbits => answer_orbits(alloc, problem, out),
         SourceTask::Matrix => answer_matrix(alloc, problem, out),
+        SourceTask::Solve(options) => answer_solve(alloc, options, problem, out),
     }
 }
 

@@ -1,5 +1,5 @@
 //! The top call: words and input to a status and a text.
-//! It stands on df_words for commands, on df_tell for texts, and on the crates of the language, of families and of orbits for what an answer is.
+//! It stands on df_words for commands, on df_tell for texts, and on the crates of the language, of families, of orbits and of designs for what an answer is.
 //! The program calls `run`. Its clause `ends` says for each status what was read and what was written, and its clause `headline` what that says of designs.
 #![tactic(auto)]
 
@@ -8,10 +8,11 @@ mod limits;
 mod matrix;
 mod orbits;
 mod runs;
+mod solve;
 mod statuses;
 mod tasks;
 
-pub use df_words::{Command, UsageFault, read_words};
+pub use df_words::{Command, Options, UsageFault, read_words};
 pub use runs::run;
 pub use statuses::Status;
 pub use tasks::SOURCE_BYTES;
@@ -24,5 +25,7 @@ mod matrix_tests;
 mod orbit_tests;
 #[cfg(test)]
 mod plain_designs;
+#[cfg(test)]
+mod solve_tests;
 #[cfg(test)]
 mod tests;

@@ -7,9 +7,12 @@ ghost use Rattle.df_run.specs.Streams.{incoming, outgoing};
 use crate::answers::{answer_bytes, ended};
 use crate::statuses::Status;
 use crate::tasks::{SOURCE_BYTES, SourceTask, Task};
+use df_correspondence::designs_are_solutions;
 use df_family::{table_tells_balance, verdict_tells_balance};
 use df_io::{ReadError, Sink, Source, read_all};
+use df_kramer_mesner::orbit_systems_are_systems;
 use df_lang::sources_keep_their_rules;
+use df_runs::laws::runs_are_whole;
 use df_tell::write_usage;
 use df_words::{commands_are_their_lines, read_words};
 use std::alloc::Global;
@@ -18,7 +21,7 @@ use std::alloc::Global;
 ///
 /// `Usage` comes where the words are not a command, and nothing is read then. Else `ReadFault` and `TooLong` come where
 /// the input was not read to its end; `BadInput` where it is not a source, or the problem is above a limit of the command;
-/// `Refused` only from `verify`; and `Done` with the command's text. `WriteFault` comes where the sink failed before the end
+/// `Refused` only from `verify`; `Spent` only from `solve`; and `Done` with the command's text. `WriteFault` comes where the sink failed before the end
 /// of the text, and `OutOfMemory` may come before its first byte.
 pub fn run<I: Source, O: Sink>(
     alloc: Global,
@@ -35,6 +38,9 @@ pub fn run<I: Source, O: Sink>(
     sources_keep_their_rules();
     table_tells_balance();
     verdict_tells_balance();
+    orbit_systems_are_systems();
+    runs_are_whole();
+    designs_are_solutions();
     run_words(alloc, words, input, out)
 }
 

@@ -5,7 +5,7 @@ ghost use Rattle.df_run.specs.Statuses.{code_of};
 /// How a run of the program ends.
 #[derive(Clone, Copy, Debug, PartialEq, Eq)]
 pub enum Status {
-    /// The command is done: accepted.
+    /// The command is done: shown, accepted, or all designs listed.
     Done,
     /// `verify`: a row of the difference table differs from what is stated.
     Refused,
@@ -19,7 +19,7 @@ pub enum Status {
     WriteFault,
     /// Out of memory. Nothing was written.
     OutOfMemory,
-    /// The search spent its budget. No command of today ends so.
+    /// `solve`: a node remains that the budget doesn't pay.
     Spent,
     /// More bytes came than the limit on input allows. Nothing was written.
     TooLong,

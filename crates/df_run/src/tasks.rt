@@ -2,7 +2,7 @@
 ghost use Rattle.std.specs.Prelude.{◌≡◌};
 ghost use Rattle.df_run.specs.Tasks.{task_of};
 
-use df_words::Command;
+use df_words::{Command, Options};
 
 /// The most bytes that a source may have: 1,048,576.
 pub const SOURCE_BYTES: u64 = 1_048_576;
@@ -27,6 +27,8 @@ pub enum SourceTask {
     Orbits,
     /// Its orbit matrix.
     Matrix,
+    /// The designs that it asks for.
+    Solve(Options),
 }
 
 impl From<Command> for Task {
@@ -39,6 +41,7 @@ impl From<Command> for Task {
             Command::Verify => Task::Source(SourceTask::Verify),
             Command::Orbits => Task::Source(SourceTask::Orbits),
             Command::Matrix => Task::Source(SourceTask::Matrix),
+            Command::Solve(options) => Task::Source(SourceTask::Solve(options)),
         }
     }
 }

@@ -1,16 +1,17 @@
 -- The commands, their options, and the words and numbers of each: a row for each.
-use Rattle.std.specs.Prelude.{◌≡◌, ℕ, ◌≤◌, nat_le, ◌&&◌, Bool, true, false, List, if◌then◌else◌, Option, Some, None, codes, bytes_eq}
+use Rattle.std.specs.Prelude.{◌≡◌, ℕ, ◌≤◌, nat_le, ◌&&◌, Bool, true, false, List, if◌then◌else◌, Option, Some, None, unwrap_or, codes, bytes_eq}
 use Rattle.std.specs.Option.{is_some}
 use Rattle.df_io.specs.Number.{number_read}
 use Rattle.df_io.specs.declared.numbers.NumberRead.{NumberRead}
 use Rattle.df_io.specs.declared.numbers.NumberRead.TheVariants.{Value, NotDigits, TooLarge}
-use Rattle.df_words.specs.declared.table.TheConstants.{LEAST_BUDGET, MOST_BUDGET}
+use Rattle.df_words.specs.declared.table.TheConstants.{LEAST_BUDGET, MOST_BUDGET, DEFAULT_BUDGET}
 use Rattle.df_words.specs.declared.table.Name.{Name}
 use Rattle.df_words.specs.declared.table.Name.TheVariants as name
 use Rattle.df_words.specs.declared.table.Flag.{Flag}
 use Rattle.df_words.specs.declared.table.Flag.TheVariants as flag
 use Rattle.df_words.specs.declared.table.Bounds.{Bounds}
 use Rattle.df_words.specs.declared.table.Stated.{Stated}
+use Rattle.df_words.specs.declared.command.Options.{Options}
 use Rattle.df_words.specs.declared.command.Command.{Command}
 use Rattle.df_words.specs.declared.command.Command.TheVariants as command
 
@@ -21,7 +22,8 @@ named word =
     (if bytes_eq word (codes "table") then Some name.Table else
     (if bytes_eq word (codes "verify") then Some name.Verify else
     (if bytes_eq word (codes "orbits") then Some name.Orbits else
-    (if bytes_eq word (codes "matrix") then Some name.Matrix else None))))
+    (if bytes_eq word (codes "matrix") then Some name.Matrix else
+    (if bytes_eq word (codes "solve") then Some name.Solve else None)))))
 
 -- the option that a word names
 abbrev pub flagged : List ℕ → Option Flag
@@ -31,8 +33,11 @@ flagged word =
     (if bytes_eq word (codes "--blocks") then Some flag.Blocks else
     (if bytes_eq word (codes "--json") then Some flag.Json else None)))
 
--- whether a command has an option
+-- whether a command has an option: a search has a budget, a log, and the blocks of its designs
 abbrev pub takes : Name → Flag → Bool
+takes name.Solve flag.Budget = true
+takes name.Solve flag.Log = true
+takes name.Solve flag.Blocks = true
 takes name flag = false
 
 -- whether the first option excludes the second: each excludes itself, and the log and the JSON text exclude each other
@@ -94,6 +99,10 @@ with_option stated flag.Log n = record stated { log = true }
 with_option stated flag.Blocks n = record stated { blocks = true }
 with_option stated flag.Json n = record stated { json = true }
 
+-- the options of a search: each as stated, and else the default budget, no log and no blocks
+abbrev pub options_in : Stated → Options
+options_in stated = record { budget = unwrap_or stated.budget DEFAULT_BUDGET; log = stated.log; blocks = stated.blocks }
+
 -- the command of a name, its number and the options stated
 abbrev pub command_named : Name → ℕ → Stated → Command
 command_named name.Show n stated = command.Show
@@ -101,3 +110,4 @@ command_named name.Table n stated = command.Table
 command_named name.Verify n stated = command.Verify
 command_named name.Orbits n stated = command.Orbits
 command_named name.Matrix n stated = command.Matrix
+command_named name.Solve n stated = command.Solve (options_in stated)

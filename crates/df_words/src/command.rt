@@ -1,5 +1,16 @@
 // What the program can be asked for.
 
+/// How designs are searched for, and what is written beside them.
+#[derive(Clone, Copy, Debug, PartialEq, Eq)]
+pub struct Options {
+    /// The most nodes that are visited, from `LEAST_BUDGET` to `MOST_BUDGET`; `DEFAULT_BUDGET` where none is stated.
+    pub budget: u64,
+    /// Whether the log is written: each entry that the search comes by.
+    pub log: bool,
+    /// Whether all blocks of each design are written, as comments.
+    pub blocks: bool,
+}
+
 /// What the program is asked to do.
 #[derive(Clone, Copy, Debug, PartialEq, Eq)]
 pub enum Command {
@@ -13,4 +24,6 @@ pub enum Command {
     Orbits,
     /// The orbit matrix of a problem.
     Matrix,
+    /// The designs that a problem asks for.
+    Solve(Options),
 }

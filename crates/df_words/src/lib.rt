@@ -8,8 +8,9 @@ mod laws;
 mod table;
 mod words;
 
-pub use command::Command;
+pub use command::{Command, Options};
 pub use laws::commands_are_their_lines;
+pub use table::{DEFAULT_BUDGET, LEAST_BUDGET, MOST_BUDGET};
 pub use words::{UsageFault, read_words};
 
 #[cfg(test)]

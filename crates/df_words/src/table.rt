@@ -1,8 +1,8 @@
 // The table of commands and options: a command or an option more is a row in each function that speaks of it.
 ghost use Rattle.std.specs.Prelude.{◌≡◌};
-ghost use Rattle.df_words.specs.Table.{named, flagged, takes, excludes, number, value, has, with_option, IsNumberOf, command_named};
+ghost use Rattle.df_words.specs.Table.{named, flagged, takes, excludes, number, value, has, with_option, options_in, IsNumberOf, command_named};
 
-use crate::command::Command;
+use crate::command::{Command, Options};
 
 /// The commands, by their words.
 #[derive(Clone, Copy, Debug, PartialEq, Eq)]
@@ -12,6 +12,7 @@ pub enum Name {
     Verify,
     Orbits,
     Matrix,
+    Solve,
 }
 
 /// The options, by their words.
@@ -53,6 +54,9 @@ pub const LEAST_BUDGET: u64 = 1;
 /// The greatest budget.
 pub const MOST_BUDGET: u64 = 1_000_000_000_000_000;
 
+/// The budget where none is stated.
+pub const DEFAULT_BUDGET: u64 = 1_000_000_000;
+
 /// The command that a word names.
 pub fn named(word: &str) -> Option<Name>
     ensures { result ≡ named word.now }
@@ -63,6 +67,7 @@ pub fn named(word: &str) -> Option<Name>
         "verify" => Some(Name::Verify),
         "orbits" => Some(Name::Orbits),
         "matrix" => Some(Name::Matrix),
+        "solve" => Some(Name::Solve),
         _ => None,
     }
 }
@@ -90,6 +95,8 @@ pub fn takes(name: Name, flag: Flag) -> bool
         (Name::Verify, _) => false,
         (Name::Orbits, _) => false,
         (Name::Matrix, _) => false,
+        (Name::Solve, Flag::Json) => false,
+        (Name::Solve, _) => true,
     }
 }
 
@@ -116,6 +123,7 @@ pub fn number(name: Name) -> Option<Bounds>
         Name::Verify => None,
         Name::Orbits => None,
         Name::Matrix => None,
+        Name::Solve => None,
     }
 }
 
@@ -162,6 +170,17 @@ impl Stated {
             Flag::Json => Stated { json: true, ..self },
         }
     }
+
+    // The options of a search, each as stated or else as it is where it isn't.
+    fn options(self) -> Options
+        ensures { result ≡ options_in self }
+    {
+        Options {
+            budget: self.budget.unwrap_or(DEFAULT_BUDGET),
+            log: self.log,
+            blocks: self.blocks,
+        }
+    }
 }
 
 /// The command of a name, of the number that followed it, which is 0 where it wants none, and of the options stated.
@@ -175,5 +194,6 @@ pub fn command(name: Name, number: u64, stated: Stated) -> Command
         Name::Verify => Command::Verify,
         Name::Orbits => Command::Orbits,
         Name::Matrix => Command::Matrix,
+        Name::Solve => Command::Solve(stated.options()),
     }
 }

@@ -27,6 +27,43 @@ fn reads_each_command(rt: HostRuntime) -> Result<(), Fail> {
 }
 
 #[test]
+fn reads_the_options_of_a_search_in_any_order(rt: HostRuntime) -> Result<(), Fail> {
+    for (words, budget, log, blocks) in [
+        (&["solve"][..], 1_000_000_000, false, false),
+        (&["solve", "--log"][..], 1_000_000_000, true, false),
+        (&["solve", "--blocks"][..], 1_000_000_000, false, true),
+        (&["solve", "--budget", "1"][..], 1, false, false),
+        (&["solve", "--budget", "007"][..], 7, false, false),
+        (
+            &["solve", "--budget", "1000000000000000"][..],
+            1_000_000_000_000_000,
+            false,
+            false,
+        ),
+        (
+            &["solve", "--blocks", "--budget", "5", "--log"][..],
+            5,
+            true,
+            true,
+        ),
+        (
+            &["solve", "--log", "--blocks", "--budget", "5"][..],
+            5,
+            true,
+            true,
+        ),
+    ] {
+        let options = Options {
+            budget,
+            log,
+            blocks,
+        };
+        assert_eq!(rt; read(rt.alloc(), words)?, Ok(Command::Solve(options)));
+    }
+    Ok(())
+}
+
+#[test]
 fn names_the_first_word_at_fault(rt: HostRuntime) -> Result<(), Fail> {
     for (words, word) in [
         (&[][..], 1),
@@ -37,7 +74,8 @@ fn names_the_first_word_at_fault(rt: HostRuntime) -> Result<(), Fail> {
         (&["--help"][..], 1),
         (&["--version"][..], 1),
         (&["--log"][..], 1),
-        (&["solve"][..], 1),
+        (&["solved"][..], 1),
+        (&["resume"][..], 1),
         (&["workload", "7"][..], 1),
         (&["check", "verify"][..], 1),
         (&["verify", "verify"][..], 2),
@@ -46,6 +84,18 @@ fn names_the_first_word_at_fault(rt: HostRuntime) -> Result<(), Fail> {
         (&["orbits", "--budget", "1"][..], 2),
         (&["matrix", "7"][..], 2),
         (&["table", ""][..], 2),
+        (&["solve", "log"][..], 2),
+        (&["solve", "--json"][..], 2),
+        (&["solve", "--budget"][..], 3),
+        (&["solve", "--budget", "0"][..], 3),
+        (&["solve", "--budget", "-1"][..], 3),
+        (&["solve", "--budget", "1000000000000001"][..], 3),
+        (&["solve", "--budget", "--log"][..], 3),
+        (&["solve", "--log", "--log"][..], 3),
+        (&["solve", "--log", "--json"][..], 3),
+        (&["solve", "--blocks", "--log", "--blocks"][..], 4),
+        (&["solve", "--budget", "2", "--budget", "2"][..], 4),
+        (&["solve", "--budget", "2", "3"][..], 4),
     ] {
         assert_eq!(rt; read(rt.alloc(), words)?, Err(UsageFault { word }));
     }
