@@ -1,0 +1,5 @@
+use Rattle.df_check.proofs.LogMoves.{lines_whole as lemma}
+use Rattle.df_check.proofs.laws.closed_lines_are_whole.Goals as goal
+
+pub returns : goal.returns
+returns c = lemma

@@ -1,0 +1,74 @@
+//! The checker of a log, a line at a time, over any system: what it still wants, and the first
+//! fault with its numbers. It knows no search, no text and no design.
+//! It stands on `df_system`, whose `Partial` keeps the needs and caps of the decisions, and on the
+//! definitions and laws of `df_walk` and `df_runs`.
+//! The crates above feed a `SystemChecker`. They may rest on its clauses, and on the laws: it is
+//! closed exactly where what it was fed is one log that proves its leaves, in any order of branching.
+//! Laws for the rooms above: those of `laws`.
+//! An entry costs the time of its row's numbers or its column's cells, and of what it takes back; a
+//! cut, a residue or a leaf may pass all columns. All memory is taken in `SystemChecker::new`.
+#![tactic(auto)]
+
+pub mod checker;
+mod cuts;
+mod judge;
+pub mod laws;
+
+pub use checker::SystemChecker;
+pub use df_walk::{CutRow, Entry};
+
+/// Out of memory.
+pub type OutOfMemory = std::alloc::AllocError;
+
+/// No target and no entry of a system that is checked is above this.
+pub const MOST_VALUE: u32 = 8_000_000;
+
+/// Why a log is refused. `OpenAtEnd`, `ChainBroken` and `SourceDiffers` are of chains of dossiers:
+/// no `SystemChecker` answers them.
+#[derive(Clone, Copy, Debug, Eq, PartialEq)]
+pub enum LogFault {
+    /// A branch at a number that is no column's.
+    ColumnRange,
+    /// A row that there isn't.
+    RowRange,
+    /// A branch at a column that is decided.
+    ColumnDecided,
+    /// The row isn't over: its need, which isn't negative.
+    NotOver { need: i64 },
+    /// The row isn't under: its need and its cap, which isn't below the need.
+    NotUnder { need: i64, cap: i64 },
+    /// The divisor is below 2, or it doesn't divide each undecided entry of the row, or it divides
+    /// the need. The need, and the first undecided column whose entry isn't a multiple, -1 where
+    /// all are.
+    NotResidue { need: i64, column: i64 },
+    /// The weighted needs add up to no less than the least sum that undecided columns can give and
+    /// no more than the greatest: these two.
+    NotCut { least: i64, greatest: i64 },
+    /// Not all needs are 0: the least row whose need isn't, and its need.
+    NotSettled { row: u32, need: i64 },
+    /// A leaf other than the wanted one: how many members the two have in common from the first on.
+    DesignDiffers { place: i64 },
+    /// An entry where a leaf must follow.
+    DesignWanted,
+    /// A line after the log was closed, or after a fault.
+    AfterClose,
+    /// The log isn't closed at its end.
+    OpenAtEnd,
+    /// A dossier that doesn't begin where the one before it ended.
+    ChainBroken,
+    /// A source other than the first one.
+    SourceDiffers,
+    /// A leaf where none is wanted.
+    NotEntry,
+}
+
+/// What a checker answers to a line of a log.
+#[derive(Clone, Copy, Debug, Eq, PartialEq)]
+pub enum Fed {
+    /// It holds.
+    Ok,
+    /// A settled entry that holds: its leaf must follow.
+    WantsDesign,
+    /// It breaks a rule. From then on every line is `AfterClose`.
+    Fault(LogFault),
+}
