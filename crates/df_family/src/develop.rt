@@ -27,7 +27,7 @@ pub struct Develop<'a> {
     problem: &'a Problem,
     shifts: Subgroup,
     member: usize,
-    shift: u8,
+    shift: Elem,
     fixing: Block,
 }
 
@@ -65,7 +65,7 @@ impl<'a> Develop<'a> {
             problem,
             shifts,
             member: 0,
-            shift: 0,
+            shift: Elem(0),
             fixing,
         }
     }
@@ -76,12 +76,12 @@ impl<'a> Develop<'a> {
     {
         let problem = self.problem;
         let member = member_at(problem, self.member)?;
-        let block = translated(problem, &member.block, Elem(self.shift));
-        match next_listed(problem, &self.shifts, &member, &self.fixing, self.shift + 1) {
+        let block = translated(problem, &member.block, self.shift);
+        match next_listed(problem, &self.shifts, &member, &self.fixing, self.shift.0 + 1) {
             Some(shift) => self.shift = shift,
             None => {
                 self.member += 1;
-                self.shift = 0;
+                self.shift = Elem(0);
                 self.fixing = fixing_of(problem, &self.shifts, self.member);
             }
         }
@@ -111,7 +111,7 @@ fn next_listed(
     member: &Member,
     fixing: &Block,
     from: u8,
-) -> Option<u8>
+) -> Option<Elem>
     requires from { from ≤ order_of problem.now.group }
     requires rules { IsStated problem.now }
     requires subgroup { IsSubgroup problem.now.group shifts.now }
@@ -121,7 +121,7 @@ fn next_listed(
 {
     for g in from..order(problem) {
         if is_listed_shift(problem, shifts, member, fixing, Elem(g)) {
-            return Some(g);
+            return Some(Elem(g));
         }
     }
     None
