@@ -18,7 +18,8 @@ use crate::problem_parts::{difference, member_at, order};
 use crate::translate::{fixing, translated};
 use df_group::{Elem, Subgroup};
 use df_lang::{Kind, Member, Problem};
-use df_subsets::{Block, Point};
+use df_sets::NumberSet;
+use df_subsets::Block;
 use std::marker::Model;
 
 /// What remains of the development of a problem's family, seen as the list of its blocks.
@@ -28,7 +29,7 @@ pub struct Develop<'a> {
     shifts: Subgroup,
     member: usize,
     shift: Elem,
-    fixing: Block,
+    fixing: NumberSet,
 }
 
 impl<'a> Model for Develop<'a> {
@@ -90,15 +91,15 @@ impl<'a> Develop<'a> {
 }
 
 // The shifts that fix the block of this member, where it is short.
-fn fixing_of(problem: &Problem, shifts: &Subgroup, member: usize) -> Block
+fn fixing_of(problem: &Problem, shifts: &Subgroup, member: usize) -> NumberSet
     requires { IsSubgroup problem.now.group shifts.now }
     ensures fixing { IsFixingOf problem.now shifts.now (drop member problem.now.family) result }
     ensures rules { IsStated problem.now }
 {
     match member_at(problem, member) {
-        None => Block::empty(),
+        None => NumberSet::empty(),
         Some(member) => match member.kind {
-            Kind::Base => Block::empty(),
+            Kind::Base => NumberSet::empty(),
             Kind::Short => fixing(problem, shifts, &member.block),
         },
     }
@@ -109,7 +110,7 @@ fn next_listed(
     problem: &Problem,
     shifts: &Subgroup,
     member: &Member,
-    fixing: &Block,
+    fixing: &NumberSet,
     from: u8,
 ) -> Option<Elem>
     requires from { from ≤ order_of problem.now.group }
@@ -132,7 +133,7 @@ fn is_listed_shift(
     problem: &Problem,
     shifts: &Subgroup,
     member: &Member,
-    fixing: &Block,
+    fixing: &NumberSet,
     g: Elem,
 ) -> bool
     requires below { g < order_of problem.now.group }
@@ -146,7 +147,7 @@ fn is_listed_shift(
 }
 
 // Whether the member's translate by a shift g is listed.
-fn is_listed(problem: &Problem, shifts: &Subgroup, member: &Member, fixing: &Block, g: Elem) -> bool
+fn is_listed(problem: &Problem, shifts: &Subgroup, member: &Member, fixing: &NumberSet, g: Elem) -> bool
     requires below { g < order_of problem.now.group }
     requires shift { has_member shifts.now g ≡ true }
     requires rules { IsStated problem.now }
@@ -162,12 +163,12 @@ fn is_listed(problem: &Problem, shifts: &Subgroup, member: &Member, fixing: &Blo
 }
 
 // Whether the difference of g from each lower element isn't one of these.
-fn is_first(problem: &Problem, fixing: &Block, g: Elem) -> bool
+fn is_first(problem: &Problem, fixing: &NumberSet, g: Elem) -> bool
     requires { g < order_of problem.now.group }
     ensures { result ≡ not (any_below (λ h. has_member fixing.now (minus (group_of problem.now.group) g h)) g) }
 {
     for h in 0..g.0 {
-        if fixing.has(Point(difference(problem, g, Elem(h)).0)) {
+        if fixing.has(difference(problem, g, Elem(h)).0) {
             return false;
         }
     }
