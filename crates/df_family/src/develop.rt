@@ -14,7 +14,7 @@ ghost use Rattle.df_lang.specs.Problems.{IsBlock, IsStated, point_count};
 ghost use Rattle.df_family.specs.Developments.{develop, develop_under, is_listed as is_listed_by};
 ghost use Rattle.df_family.specs.Remainders.{is_listed_shift as is_listed_shift_by, IsFixing, IsFixingOf};
 
-use crate::problem_parts::{difference, member_at, order};
+use crate::problem_pieces::{difference, member_at, order};
 use crate::translate::{fixing, translated};
 use df_group::{Elem, Subgroup};
 use df_lang::{Kind, Member, Problem};

@@ -6,7 +6,7 @@
 
 mod develop;
 mod laws;
-mod problem_parts;
+mod problem_pieces;
 mod table;
 mod tally;
 #[cfg(test)]

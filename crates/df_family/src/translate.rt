@@ -6,7 +6,7 @@ ghost use Rattle.df_group.specs.Subgroups.{IsSubgroup};
 ghost use Rattle.df_lang.specs.Problems.{point_count};
 ghost use Rattle.df_family.specs.Translates.{translate, fixes, stabilizer as stabilizer_of};
 
-use crate::problem_parts::{order, sum};
+use crate::problem_pieces::{order, sum};
 use df_group::{Elem, Subgroup};
 use df_lang::Problem;
 use df_sets::NumberSet;

@@ -1,7 +1,7 @@
 mod AllCells
 mod CellEntries
 mod CellTests
-mod OrbitParts
+mod OrbitPieces
 mod MarkLists
 mod NeededCells
 mod OrbitCells
