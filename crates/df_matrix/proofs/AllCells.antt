@@ -18,7 +18,7 @@ use Rattle.df_system.specs.Storage.{positive_cells}
 use Rattle.df_system.proofs.PositiveCells.{positive_cells-append}
 use Rattle.df_kramer_mesner.specs.OrbitSystems.{maps_of_problem, all_blocks, has_in_orbit, pairs_of, orbits_of, needed_of, orbit_cover, needed_entry, pair_target, entries_of, targets_of, columns_of, is_kept, column_number, cells_of, orbit_at}
 use Rattle.df_kramer_mesner.specs.Laws.{AreNumbered}
-use Rattle.df_matrix.specs.MatrixPieces.{pair_cells, needed_places, kept_places}
+use Rattle.df_matrix.specs.MatrixParts.{pair_cells, needed_places, kept_places}
 use Rattle.df_matrix.proofs.CellTests.{all_within, within_append, within_cells, within_ones}
 use Rattle.df_matrix.proofs.NeededCells.{no_own_row, own_row}
 use Rattle.df_matrix.proofs.PlaceLists.{block_at_place, place_listed, place_passes}

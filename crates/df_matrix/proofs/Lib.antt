@@ -1,7 +1,7 @@
 mod AllCells
 mod CellEntries
 mod CellTests
-mod OrbitPieces
+mod OrbitParts
 mod MarkLists
 mod NeededCells
 mod OrbitCells

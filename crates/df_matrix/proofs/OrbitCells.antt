@@ -17,7 +17,7 @@ use Rattle.df_walk.specs.declared.Cell.{Cell}
 use Rattle.df_walk.specs.Systems.{AreCells, entry_of}
 use Rattle.df_kramer_mesner.specs.OrbitSystems.{maps_of_problem, all_pairs, all_blocks, pairs_of, pairs_within, row_size, orbit_size, orbit_cover}
 use Rattle.df_kramer_mesner.specs.Laws.{EntriesAreQuotients, CellsAreTold, IsQuotient}
-use Rattle.df_matrix.specs.MatrixPieces.{AreRowsOf, quotient_cell, pair_cells}
+use Rattle.df_matrix.specs.MatrixParts.{AreRowsOf, quotient_cell, pair_cells}
 use Rattle.df_matrix.proofs.CellEntries.{entry_at, entry_changed}
 use Rattle.df_matrix.proofs.Tallies.{IsTally}
 

@@ -4,7 +4,7 @@ use Rattle.std.proofs.lemmas.List.{length-map, append_assoc, get_or_read, drop_m
 use Rattle.std.proofs.lemmas.Simd.{map-map}
 use Rattle.df_lists.specs.NumberSets.{IsSet, Rises}
 use Rattle.df_subsets.specs.Subsets.{choose}
-use Rattle.df_matrix.specs.MatrixPieces.{pairs_before}
+use Rattle.df_matrix.specs.MatrixParts.{pairs_before}
 
 -- one first point more
 pub pairs_more : (k p : ℕ) (b later : List ℕ) → drop k b ≡ p ∷ later → pairs_before (k + 1) b ≡ pairs_before k b ++ map (λ q. p ∷ q ∷ []) later

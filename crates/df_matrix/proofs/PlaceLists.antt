@@ -13,7 +13,7 @@ use Rattle.df_lists.proofs.RangeLaws.{filter_more}
 use Rattle.df_lists.proofs.MemberLaws.{In-filter, In-filter_gives, In-range, In-range_gives}
 use Rattle.df_lists.proofs.TestLaws.{filter_agree}
 use Rattle.df_lists.proofs.ListPlaces.{In_place, In-slice_get}
-use Rattle.df_matrix.specs.MatrixPieces.{places_where}
+use Rattle.df_matrix.specs.MatrixParts.{places_where}
 
 range_rises : (a n : ℕ) → IsStrictlyIncreasing (range_with_len a n)
 range_rises a n k h = let l = length-range_with_len a n in let x = get_or-range_with_len a n k 0 (omega (arith, h, l)) in let y = get_or-range_with_len a n (k + 1) 0 (omega (arith, h, l)) in omega (arith, x, y)

@@ -13,7 +13,7 @@ use Rattle.df_lists.proofs.TestLaws.{same_tests}
 use Rattle.df_lists.proofs.MemberLaws.{count-append}
 use Rattle.df_lang.specs.Problems.{Stated}
 use Rattle.df_kramer_mesner.specs.OrbitSystems.{in_one_orbit, pairs_of}
-use Rattle.df_matrix.specs.MatrixPieces.{AreRowsOf}
+use Rattle.df_matrix.specs.MatrixParts.{AreRowsOf}
 
 pub eqb_turned : (m n : ℕ) → eqb m n ≡ eqb n m
 eqb_turned m n = same_tests (eqb m n) (eqb n m) (λ h. eq-eqb n m (sym (eqb-true m n h))) (λ h. eq-eqb m n (sym (eqb-true n m h)))

@@ -8,7 +8,7 @@ use Rattle.df_walk.specs.declared.Cell.{Cell}
 use Rattle.df_walk.specs.Systems.{IsColumn, AreCells}
 use Rattle.df_system.specs.Storage.{IsFirstEmpty}
 use Rattle.df_kramer_mesner.specs.OrbitSystems.{orbits_of, columns_of, is_kept, cells_of, orbit_at}
-use Rattle.df_matrix.specs.MatrixPieces.{kept_places}
+use Rattle.df_matrix.specs.MatrixParts.{kept_places}
 use Rattle.df_matrix.proofs.PlaceLists.{blocks_at_places}
 
 pub system_columns : (s : Stated) → map (λ orbit. cells_of s (orbit_at s orbit)) (kept_places s) ≡ map (cells_of s) (columns_of s)

@@ -79,10 +79,10 @@ telling_ends rows i c cells sorted few T h differs = record {
 
     told : (row : ℕ) (b : Bool) → eqb (get_or rows i 0) row ≡ b → entry_of (cells ++ record { row = get_or rows i 0; value = c + 1 } ∷ []) row + cond (eqb (get_or rows (i + 1) 0) row) 0 0 ≡ count (λ r. eqb r row) (take (i + 1) rows)
     told row b e =
-        let pieces = entry_of-append cells (record { row = get_or rows i 0; value = c + 1 } ∷ []) row in
+        let parts = entry_of-append cells (record { row = get_or rows i 0; value = c + 1 } ∷ []) row in
         let more = count_more rows i row h in
         let now = add_one (entry_of cells row) (count (λ r. eqb r row) (take i rows)) c (eqb (get_or rows i 0) row) (T.tally row) in
-        omega (arith, pieces, more, now, no_count (eqb (get_or rows (i + 1) 0) row))
+        omega (arith, parts, more, now, no_count (eqb (get_or rows (i + 1) 0) row))
 
 -- all rows are told
 pub record IsTally (rows : List ℕ) (told : List Cell) : Type 0 where

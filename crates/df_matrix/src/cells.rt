@@ -9,7 +9,7 @@ ghost use Rattle.arrayvec.specs.ArrayVec.{array_vec_len};
 ghost use Rattle.df_lists.specs.Membership.{count};
 ghost use Rattle.df_walk.specs.Systems.{AreCells, entry_of};
 ghost use Rattle.df_kramer_mesner.specs.OrbitSystems.{pairs_of, orbits_of, orbit_at};
-ghost use Rattle.df_matrix.specs.MatrixPieces.{quotient_cell, pair_cells as pair_cells_of};
+ghost use Rattle.df_matrix.specs.MatrixParts.{quotient_cell, pair_cells as pair_cells_of};
 
 use crate::orbits::ProblemOrbits;
 use crate::rows::sorted_rows;
@@ -59,7 +59,7 @@ fn tally(rows: &[u32]) -> OrbitCells
     cells
 }
 
-// The entries of an orbit with this number of blocks, from the number of pairs of one of its blocks in each row:
+// The entries of an orbit of so many blocks, from how many pairs of one of its blocks lie in each row:
 // each of a row's pairs lies in the same number of blocks.
 fn quotients(orbits: &ProblemOrbits, size: u32, tally: &[Cell]) -> OrbitCells
     requires orbits { 0 < length (orbits_of orbits.now) }

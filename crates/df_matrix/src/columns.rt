@@ -5,7 +5,7 @@ ghost use Rattle.std.specs.List.Sorted.{IsStrictlyIncreasing};
 ghost use Rattle.df_lists.specs.Membership.{In};
 ghost use Rattle.df_lang.specs.Problems.{point_count, IsBlock, IsStated};
 ghost use Rattle.df_kramer_mesner.specs.OrbitSystems.{pairs_of, orbits_of, needed_of, pair_target, targets_of as all_targets, has_in_orbit, is_kept, orbit_system, orbit_at, cells_of};
-ghost use Rattle.df_matrix.specs.MatrixPieces.{needed_places, kept_places};
+ghost use Rattle.df_matrix.specs.MatrixParts.{needed_places, kept_places};
 
 use crate::OutOfMemory;
 use crate::cells::{OrbitCells, fit, pair_cells};

@@ -3,7 +3,7 @@ ghost use Rattle.std.specs.Prelude.{◌≡◌, ◌⊎◌, ◌+◌, ◌<◌, ◌�
 ghost use Rattle.df_lang.specs.Problems.{point_count, IsBlock, IsStated};
 ghost use Rattle.df_kramer_mesner.specs.OrbitSystems.{orbit_system, pairs_of, needed_of, orbits_of, columns_of, targets_of, targets_of as all_targets, maps_of_problem, pair_at, needed_at, column_at, orbit_at, entry_at, cells_of, column_number, representative};
 ghost use Rattle.df_matrix.specs.Limits.{limit_passed, or_else, column_limit, entry_limit, column_limit_of, entry_limit_of, passed_by};
-ghost use Rattle.df_matrix.specs.MatrixPieces.{AreColumns, needed_places, kept_places};
+ghost use Rattle.df_matrix.specs.MatrixParts.{AreColumns, needed_places, kept_places};
 ghost use Rattle.df_matrix.specs.declared.matrix.MatrixError.TheVariants.{OutOfMemory as OutOfMemoryError};
 
 use crate::cells::{OrbitCells, value_at};
@@ -20,11 +20,11 @@ use df_system::System;
 use std::alloc::{AllocError, Global};
 use std::marker::Model;
 
-/// The most columns of an orbit matrix: those that a sparse system may have.
-pub const MOST_COLUMNS: u64 = df_system::MOST_COLUMNS as u64;
+/// The most columns of an orbit matrix.
+pub const MOST_COLUMNS: u64 = 65_536;
 
-/// The most rows times columns of an orbit matrix of version 1: the entries that a system may have.
-pub const MOST_ENTRIES: u64 = df_system::MOST_ENTRIES as u64;
+/// The most rows times columns of an orbit matrix of version 1.
+pub const MOST_ENTRIES: u64 = 16_777_216;
 
 /// Why there is no orbit matrix. The limits are judged in the order of the first three; `TooManySummed` stands in the place of `TooManySubsets` for a source of version 2.
 #[derive(Clone, Copy, Debug, PartialEq, Eq)]
@@ -55,7 +55,7 @@ pub struct OrbitMatrix {
 
 impl Model for OrbitMatrix {
     ghost use Rattle.df_lang.specs.Problems.{Stated};
-    ghost use Rattle.df_matrix.specs.MatrixPieces.{AreColumns};
+    ghost use Rattle.df_matrix.specs.MatrixParts.{AreColumns};
 
     ghost Value = { Stated };
 
@@ -190,12 +190,12 @@ pub fn build(alloc: Global, problem: &Problem) -> Result<OrbitMatrix, MatrixErro
         Ok(orbits) => orbits,
         Err(error) => return Err(passed(error)),
     };
-    match pieces_of(alloc, &orbits) {
-        Ok(pieces) => Ok(OrbitMatrix {
+    match parts_of(alloc, &orbits) {
+        Ok(parts) => Ok(OrbitMatrix {
             orbits,
-            needed_orbits: pieces.needed,
-            kept_orbits: pieces.kept,
-            system: pieces.system,
+            needed_orbits: parts.needed,
+            kept_orbits: parts.kept,
+            system: parts.system,
         }),
         Err(error) => Err(error),
     }
@@ -214,7 +214,7 @@ fn passed(error: OrbitError) -> MatrixError
 
 // What a matrix keeps beside its orbits.
 #[derive(Drop)]
-struct Pieces {
+struct Parts {
     needed: Vec<u32>,
     kept: Vec<u32>,
     system: System,
@@ -266,9 +266,9 @@ fn version_of(problem: &Problem) -> u8
     problem.version
 }
 
-// The pieces of a matrix, if its columns and entries aren't too many.
-fn pieces_of(alloc: Global, orbits: &ProblemOrbits) -> Result<Pieces, MatrixError>
-    ensures value { IfOk result (λ pieces. AreColumns orbits.now pieces.needed.items pieces.kept.items pieces.system) }
+// The parts of a matrix, if its columns and entries aren't too many.
+fn parts_of(alloc: Global, orbits: &ProblemOrbits) -> Result<Parts, MatrixError>
+    ensures value { IfOk result (λ parts. AreColumns orbits.now parts.needed.items parts.kept.items parts.system) }
     ensures within { IsOk result → or_else (column_limit orbits.now) (entry_limit orbits.now) ≡ None }
     ensures refused { IfErr result (λ e. (or_else (column_limit orbits.now) (entry_limit orbits.now) ≡ Some e) ⊎ (e ≡ OutOfMemoryError)) }
 {
@@ -289,7 +289,7 @@ fn pieces_of(alloc: Global, orbits: &ProblemOrbits) -> Result<Pieces, MatrixErro
         Err(error) => return Err(error),
     }
     match system_of(alloc, orbits, targets, &needed, &kept) {
-        Ok(system) => Ok(Pieces {
+        Ok(system) => Ok(Parts {
             needed,
             kept,
             system,

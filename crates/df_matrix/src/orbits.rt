@@ -38,7 +38,7 @@ pub struct ProblemOrbits {
 
 impl Model for ProblemOrbits {
     ghost use Rattle.df_lang.specs.Problems.{Stated};
-    ghost use Rattle.df_matrix.specs.MatrixPieces.{AreOrbits};
+    ghost use Rattle.df_matrix.specs.MatrixParts.{AreOrbits};
 
     ghost Value = { Stated };
 

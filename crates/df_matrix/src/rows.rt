@@ -5,7 +5,7 @@ ghost use Rattle.arrayvec.specs.ArrayVec.{array_vec_len};
 ghost use Rattle.df_lists.specs.NumberSets.{IsSet};
 ghost use Rattle.df_subsets.specs.Subsets.{choose};
 ghost use Rattle.df_lang.specs.Problems.{point_count};
-ghost use Rattle.df_matrix.specs.MatrixPieces.{AreRowsOf};
+ghost use Rattle.df_matrix.specs.MatrixParts.{AreRowsOf};
 
 use crate::orbits::ProblemOrbits;
 use arrayvec::ArrayVec;

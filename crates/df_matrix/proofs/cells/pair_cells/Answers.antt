@@ -1,7 +1,7 @@
 use Rattle.std.proofs.Common.{◌<◌, length, map, sym, ap, subst, arith, ◌∙◌, All}
 use Rattle.df_walk.specs.Systems.{AreCells}
 use Rattle.df_kramer_mesner.specs.OrbitSystems.{pairs_of, orbit_size}
-use Rattle.df_matrix.specs.MatrixPieces.{quotient_cell, pair_cells}
+use Rattle.df_matrix.specs.MatrixParts.{quotient_cell, pair_cells}
 use Rattle.df_matrix.proofs.OrbitCells.{quotients_are, quotients_are_cells}
 use Rattle.df_matrix.proofs.Tallies.{IsTally}
 use Rattle.df_matrix.proofs.cells.pair_cells.Goals as goal

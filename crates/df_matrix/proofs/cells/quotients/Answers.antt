@@ -1,7 +1,7 @@
 use Rattle.std.proofs.Common.{◌*◌, ◌/◌, ◌++◌, ◌∷◌, [], length, get_or, take, sym, ap, ap₂, ◌∙◌, arith}
 use Rattle.std.proofs.lemmas.List.{map_more, length-map, length-take-le}
 use Rattle.df_walk.specs.declared.Cell.{Cell}
-use Rattle.df_matrix.specs.MatrixPieces.{quotient_cell}
+use Rattle.df_matrix.specs.MatrixParts.{quotient_cell}
 use Rattle.df_matrix.proofs.cells.quotients.Goals as goal
 
 pub push-requires : goal.push-requires

@@ -1,5 +1,5 @@
 use Rattle.std.proofs.Common.{◌≡◌, map, take}
-use Rattle.df_matrix.specs.MatrixPieces.{quotient_cell}
+use Rattle.df_matrix.specs.MatrixParts.{quotient_cell}
 use Rattle.df_matrix.proofs.cells.quotients.Given as goal
 
 abbrev pub invariant-loop-cell : goal.invariant-loop-cell

@@ -7,7 +7,7 @@ use Rattle.df_walk.specs.Systems.{IsSystem, AreCells}
 use Rattle.df_system.specs.Storage.{IsZeroColumn, IsFirstEmpty}
 use Rattle.df_kramer_mesner.specs.OrbitSystems.{orbits_of, columns_of, is_kept, targets_of, orbit_system, cells_of, orbit_at}
 use Rattle.df_kramer_mesner.specs.Laws.{AreSparse}
-use Rattle.df_matrix.specs.MatrixPieces.{kept_places}
+use Rattle.df_matrix.specs.MatrixParts.{kept_places}
 use Rattle.df_matrix.proofs.PlaceLists.{place_passes}
 use Rattle.df_matrix.proofs.SystemColumns.{system_columns, columns_cells, none_empty}
 use Rattle.df_matrix.proofs.columns.system_of.Goals as goal

@@ -6,13 +6,13 @@ use Rattle.df_matrix.proofs.matrix.build.Goals as goal
 pub returns-in-Err-clause-refused : goal.returns-in-Err-clause-refused
 returns-in-Err-clause-refused c = passed_first c.args.problem.now c.in-Err.error c.passed.result c.passed.ensures c.in-Err.ensures.above c.in-Err.ensures.below
 
-pub returns-in-Ok-pieces_of-clause-within : goal.returns-in-Ok-pieces_of-clause-within
-returns-in-Ok-pieces_of-clause-within c = λ _.
-    limit_later c.args.problem.now None (not_passed c.args.problem.now c.in-Ok.orbits c.in-Ok.ensures.above) (subst (λ s. or_else (column_limit s) (entry_limit s) ≡ None) c.in-Ok.ensures.value (c.in-Ok-pieces_of.ensures.within refl))
+pub returns-in-Ok-parts_of-clause-within : goal.returns-in-Ok-parts_of-clause-within
+returns-in-Ok-parts_of-clause-within c = λ _.
+    limit_later c.args.problem.now None (not_passed c.args.problem.now c.in-Ok.orbits c.in-Ok.ensures.above) (subst (λ s. or_else (column_limit s) (entry_limit s) ≡ None) c.in-Ok.ensures.value (c.in-Ok-parts_of.ensures.within refl))
 
-pub returns-in-Err-pieces_of-clause-refused : goal.returns-in-Err-pieces_of-clause-refused
-returns-in-Err-pieces_of-clause-refused c =
+pub returns-in-Err-parts_of-clause-refused : goal.returns-in-Err-parts_of-clause-refused
+returns-in-Err-parts_of-clause-refused c =
     ⊎_elim
-    (λ h. inl (limit_later c.args.problem.now (Some c.in-Err-pieces_of.error) (not_passed c.args.problem.now c.in-Ok.orbits c.in-Ok.ensures.above) (subst (λ s. or_else (column_limit s) (entry_limit s) ≡ Some c.in-Err-pieces_of.error) c.in-Ok.ensures.value h)))
+    (λ h. inl (limit_later c.args.problem.now (Some c.in-Err-parts_of.error) (not_passed c.args.problem.now c.in-Ok.orbits c.in-Ok.ensures.above) (subst (λ s. or_else (column_limit s) (entry_limit s) ≡ Some c.in-Err-parts_of.error) c.in-Ok.ensures.value h)))
     (λ h. inr h)
-    c.in-Err-pieces_of.ensures.refused
+    c.in-Err-parts_of.ensures.refused

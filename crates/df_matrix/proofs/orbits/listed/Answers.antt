@@ -5,8 +5,8 @@ use Rattle.df_maps.specs.FullMaps.{point_count}
 use Rattle.df_orbits.specs.Orbits.{pair_orbits, block_orbits}
 use Rattle.df_kramer_mesner.specs.OrbitSystems.{maps_of_problem}
 use Rattle.df_kramer_mesner.specs.Laws.{AreFew}
-use Rattle.df_matrix.specs.MatrixPieces.{AreOrbits}
-use Rattle.df_matrix.proofs.OrbitPieces.{shown}
+use Rattle.df_matrix.specs.MatrixParts.{AreOrbits}
+use Rattle.df_matrix.proofs.OrbitParts.{shown}
 use Rattle.df_matrix.proofs.orbits.listed.Goals as goal
 
 pub orbits_of_sizes-requires-clause-range : goal.orbits_of_sizes-requires-clause-range

@@ -1,7 +1,7 @@
 use Rattle.std.proofs.Common.{◌+◌, ◌++◌, map, [], ◌∷◌, take, sym, subst, arith, append-nil}
 use Rattle.std.proofs.lemmas.List.{get_or_read, take_all}
 use Rattle.df_lang.specs.Problems.{point_count}
-use Rattle.df_matrix.specs.MatrixPieces.{AreRowsOf}
+use Rattle.df_matrix.specs.MatrixParts.{AreRowsOf}
 use Rattle.df_matrix.proofs.PairLists.{read_later}
 use Rattle.df_matrix.proofs.RowLists.{rows_next}
 use Rattle.df_matrix.proofs.rows.add_rows.Goals as goal

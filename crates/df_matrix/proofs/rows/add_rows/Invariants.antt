@@ -1,6 +1,6 @@
 use Rattle.std.proofs.Common.{◌≡◌, ℕ, ◌+◌, ◌++◌, map, List, [], ◌∷◌, take}
 use Rattle.arrayvec.specs.ArrayVec.{array_vec_len}
-use Rattle.df_matrix.specs.MatrixPieces.{AreRowsOf}
+use Rattle.df_matrix.specs.MatrixParts.{AreRowsOf}
 use Rattle.df_matrix.proofs.rows.add_rows.Given as goal
 
 abbrev pub invariant-loop-q : goal.invariant-loop-q

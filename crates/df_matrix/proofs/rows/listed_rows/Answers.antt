@@ -2,7 +2,7 @@ use Rattle.std.proofs.Common.{◌≡◌, ◌+◌, ◌-◌, ◌<◌, map, [], ◌
 use Rattle.std.proofs.lemmas.List.{length-map}
 use Rattle.df_lang.specs.Problems.{point_count}
 use Rattle.df_lists.specs.NumberSets.{IsSet}
-use Rattle.df_matrix.specs.MatrixPieces.{AreRowsOf, pairs_before}
+use Rattle.df_matrix.specs.MatrixParts.{AreRowsOf, pairs_before}
 use Rattle.df_matrix.proofs.PairLists.{pairs_more, pairs_all, pairs_few, block_drop, from_point}
 use Rattle.df_matrix.proofs.RowLists.{rows_none}
 use Rattle.df_matrix.proofs.rows.listed_rows.Goals as goal

@@ -1,4 +1,4 @@
-use Rattle.df_matrix.specs.MatrixPieces.{AreRowsOf, pairs_before}
+use Rattle.df_matrix.specs.MatrixParts.{AreRowsOf, pairs_before}
 use Rattle.df_matrix.proofs.rows.listed_rows.Given as goal
 
 abbrev pub invariant-loop-i : goal.invariant-loop-i

@@ -4,7 +4,7 @@ use Rattle.std.specs.List.Sorted.{IsNonDecreasing}
 use Rattle.std.proofs.lemmas.List.{take_at}
 use Rattle.std.proofs.lemmas.List.Sorted.{IsNonDecreasingBy-from_sort}
 use Rattle.df_subsets.specs.Subsets.{choose}
-use Rattle.df_matrix.specs.MatrixPieces.{AreRowsOf}
+use Rattle.df_matrix.specs.MatrixParts.{AreRowsOf}
 use Rattle.df_matrix.proofs.RowLists.{rows_ordered}
 use Rattle.df_matrix.proofs.rows.sorted_rows.Goals as goal
 

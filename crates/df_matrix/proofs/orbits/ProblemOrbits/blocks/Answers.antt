@@ -1,8 +1,8 @@
 use Rattle.std.proofs.Common.{◌≤◌, ℕ, List, length, sym, subst, All}
 use Rattle.df_lists.proofs.ListPlaces.{All-from_members}
 use Rattle.df_kramer_mesner.specs.OrbitSystems.{orbits_of}
-use Rattle.df_matrix.specs.MatrixPieces.{AreOrbits}
-use Rattle.df_matrix.proofs.OrbitPieces.{shown, blocks_listed}
+use Rattle.df_matrix.specs.MatrixParts.{AreOrbits}
+use Rattle.df_matrix.proofs.OrbitParts.{shown, blocks_listed}
 use Rattle.df_matrix.proofs.orbits.ProblemOrbits.blocks.Goals as goal
 
 pub returns-clause-orbits : goal.returns-clause-orbits

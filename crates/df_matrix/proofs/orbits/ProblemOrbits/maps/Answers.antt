@@ -1,5 +1,5 @@
-use Rattle.df_matrix.specs.MatrixPieces.{AreOrbits}
-use Rattle.df_matrix.proofs.OrbitPieces.{shown}
+use Rattle.df_matrix.specs.MatrixParts.{AreOrbits}
+use Rattle.df_matrix.proofs.OrbitParts.{shown}
 use Rattle.df_matrix.proofs.orbits.ProblemOrbits.maps.Goals as goal
 
 pub returns : goal.returns

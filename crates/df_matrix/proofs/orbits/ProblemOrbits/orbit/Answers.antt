@@ -3,8 +3,8 @@ use Rattle.df_lists.specs.Membership.{In}
 use Rattle.df_lists.proofs.ListPlaces.{In-get_or}
 use Rattle.df_lang.specs.Problems.{point_count}
 use Rattle.df_kramer_mesner.specs.OrbitSystems.{orbits_of, orbit_at, all_blocks}
-use Rattle.df_matrix.specs.MatrixPieces.{AreOrbits}
-use Rattle.df_matrix.proofs.OrbitPieces.{shown, blocks_long, blocks_listed, orbit_member}
+use Rattle.df_matrix.specs.MatrixParts.{AreOrbits}
+use Rattle.df_matrix.proofs.OrbitParts.{shown, blocks_long, blocks_listed, orbit_member}
 use Rattle.df_matrix.proofs.orbits.ProblemOrbits.orbit.Goals as goal
 
 are : (c : goal.After-rep) → AreOrbits c.args.self.now c.self.inside.maps c.self.inside.pairs c.self.inside.numbers c.self.inside.blocks

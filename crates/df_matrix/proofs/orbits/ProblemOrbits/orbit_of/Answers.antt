@@ -5,8 +5,8 @@ use Rattle.df_lists.proofs.TestLaws.{has_gives}
 use Rattle.df_lang.specs.Problems.{point_count}
 use Rattle.df_maps.specs.FullMaps as maps
 use Rattle.df_orbits.specs.Orbits.{block_orbits, are_in_one_orbit, representative_of}
-use Rattle.df_matrix.specs.MatrixPieces.{AreOrbits}
-use Rattle.df_matrix.proofs.OrbitPieces.{shown, blocks_long, blocks_listed}
+use Rattle.df_matrix.specs.MatrixParts.{AreOrbits}
+use Rattle.df_matrix.proofs.OrbitParts.{shown, blocks_long, blocks_listed}
 use Rattle.df_matrix.proofs.orbits.ProblemOrbits.orbit_of.Goals as goal
 
 are : (c : goal.After-number_of) → AreOrbits c.args.self.now c.self.inside.maps c.self.inside.pairs c.self.inside.numbers c.self.inside.blocks

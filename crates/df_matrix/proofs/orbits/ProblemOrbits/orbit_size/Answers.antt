@@ -1,7 +1,7 @@
 use Rattle.std.proofs.Common.{◌≡◌, arith}
 use Rattle.df_kramer_mesner.specs.OrbitSystems.{orbit_at, orbit_size}
-use Rattle.df_matrix.specs.MatrixPieces.{AreOrbits}
-use Rattle.df_matrix.proofs.OrbitPieces.{shown, blocks_long, orbit_sized, orbit_some}
+use Rattle.df_matrix.specs.MatrixParts.{AreOrbits}
+use Rattle.df_matrix.proofs.OrbitParts.{shown, blocks_long, orbit_sized, orbit_some}
 use Rattle.df_matrix.proofs.orbits.ProblemOrbits.orbit_size.Goals as goal
 
 are : (c : goal.After-size) → AreOrbits c.args.self.now c.self.inside.maps c.self.inside.pairs c.self.inside.numbers c.self.inside.blocks

@@ -1,8 +1,8 @@
 use Rattle.std.proofs.Common.{◌≡◌, [], ◌∷◌, length, sym, ap, ap₂, arith, ◌∙◌, slice_index}
 use Rattle.df_lang.specs.Problems.{point_count}
 use Rattle.df_kramer_mesner.specs.Laws.{IsPair}
-use Rattle.df_matrix.specs.MatrixPieces.{AreOrbits}
-use Rattle.df_matrix.proofs.OrbitPieces.{shown, pairs_long, row_at, row_pair, read_first, read_second}
+use Rattle.df_matrix.specs.MatrixParts.{AreOrbits}
+use Rattle.df_matrix.proofs.OrbitParts.{shown, pairs_long, row_at, row_pair, read_first, read_second}
 use Rattle.df_matrix.proofs.orbits.ProblemOrbits.pair.Goals as goal
 
 pub bounds-deref-0 : goal.bounds-deref-0

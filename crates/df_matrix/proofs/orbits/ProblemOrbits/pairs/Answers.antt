@@ -1,8 +1,8 @@
 use Rattle.std.proofs.Common.{◌≡◌, ◌≤◌, ℕ, List, length, ap, sym, subst, arith, All}
 use Rattle.df_lists.proofs.ListPlaces.{All-from_members}
 use Rattle.df_kramer_mesner.specs.OrbitSystems.{pairs_of}
-use Rattle.df_matrix.specs.MatrixPieces.{AreOrbits}
-use Rattle.df_matrix.proofs.OrbitPieces.{shown, pairs_listed}
+use Rattle.df_matrix.specs.MatrixParts.{AreOrbits}
+use Rattle.df_matrix.proofs.OrbitParts.{shown, pairs_listed}
 use Rattle.df_matrix.proofs.orbits.ProblemOrbits.pairs.Goals as goal
 
 pub returns-clause-orbits : goal.returns-clause-orbits

@@ -2,8 +2,8 @@ use Rattle.std.proofs.Common.{◌≡◌, ◌<◌, [], ◌∷◌, length, subst, 
 use Rattle.df_subsets.specs.Subsets.{place_of}
 use Rattle.df_orbits.specs.Orbits.{listed_representatives, pair_orbits, are_in_one_orbit, representative_of}
 use Rattle.df_kramer_mesner.specs.OrbitSystems.{pairs_of}
-use Rattle.df_matrix.specs.MatrixPieces.{AreOrbits}
-use Rattle.df_matrix.proofs.OrbitPieces.{shown, pairs_long, pairs_listed}
+use Rattle.df_matrix.specs.MatrixParts.{AreOrbits}
+use Rattle.df_matrix.proofs.OrbitParts.{shown, pairs_long, pairs_listed}
 use Rattle.df_matrix.proofs.orbits.ProblemOrbits.row_of.Goals as goal
 
 are : (c : goal.After-number_of) → AreOrbits c.args.self.now c.self.inside.maps c.self.inside.pairs c.self.inside.numbers c.self.inside.blocks

@@ -1,6 +1,6 @@
 use Rattle.std.proofs.Common.{arith}
-use Rattle.df_matrix.specs.MatrixPieces.{AreOrbits}
-use Rattle.df_matrix.proofs.OrbitPieces.{shown, pairs_long, row_sized, row_some}
+use Rattle.df_matrix.specs.MatrixParts.{AreOrbits}
+use Rattle.df_matrix.proofs.OrbitParts.{shown, pairs_long, row_sized, row_some}
 use Rattle.df_matrix.proofs.orbits.ProblemOrbits.row_size.Goals as goal
 
 are : (c : goal.After-size) → AreOrbits c.args.self.now c.self.inside.maps c.self.inside.pairs c.self.inside.numbers c.self.inside.blocks

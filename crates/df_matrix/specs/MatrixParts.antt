@@ -35,7 +35,7 @@ pub record AreRowsOf (s : Stated) (pairs : List (List ℕ)) (rows : List ℕ) : 
   pub within : All (λ row. row < length (pairs_of s)) rows
   pub tally : (i : ℕ) (pair : List ℕ) → slice_get (pairs_of s) i ≡ Some pair → count (λ row. row == i) rows ≡ count (λ p. in_one_orbit s p pair) pairs
 
--- the entry of an orbit with a number of blocks, from the number of pairs of one of its blocks in the row
+-- the entry of an orbit of so many blocks, where so many pairs of a block of it are in the row
 abbrev pub quotient_cell : Stated → ℕ → Cell → Cell
 quotient_cell s size cell = record { row = cell.row; value = (size * cell.value) / row_size s (pair_at s cell.row) }
 

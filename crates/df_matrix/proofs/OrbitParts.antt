@@ -1,4 +1,4 @@
--- What is stored of the orbits, said of the problem.
+-- What is kept of the orbits, told of the problem.
 use Rattle.std.proofs.Common.{◌≡◌, ℕ, ◌<◌, ◌≤◌, List, [], length, sym, ap, ◌∙◌, subst, arith, get_or}
 use Rattle.std.proofs.lemmas.List.{length-map, get_or_read, get_or-map}
 use Rattle.df_lists.specs.Membership.{In}
@@ -19,7 +19,7 @@ use Rattle.df_maps.specs.FullMaps.{MapGroup}
 use Rattle.df_orbits.specs.Orbits.{listed_representatives, orbit_sizes}
 use Rattle.df_orbits.proofs.ListedOrbits.{members_are, sizes_are}
 use Rattle.df_kramer_mesner.specs.OrbitSystems.{maps_of_problem, in_one_orbit, all_pairs, all_blocks, pairs_of, orbits_of, pair_at, orbit_at, row_size, orbit_size}
-use Rattle.df_matrix.specs.MatrixPieces.{AreOrbits}
+use Rattle.df_matrix.specs.MatrixParts.{AreOrbits}
 
 -- the two points of a pair, as they are read
 pub read_first : (v r : ℕ) (xs pair : List ℕ) → IsPair v pair → xs ≡ pair → r ≡ get_or xs 0 r → r ≡ get_or pair 0 0
@@ -28,7 +28,7 @@ read_first v r xs pair P e h = get_or_read xs 0 r (omega (arith, ap length (e �
 pub read_second : (v r : ℕ) (xs pair : List ℕ) → IsPair v pair → xs ≡ pair → r ≡ get_or xs 1 r → r ≡ get_or pair 1 0
 read_second v r xs pair P e h = get_or_read xs 1 r (omega (arith, ap length (e ∙ P.points))) h 0 ∙ ap (λ l. get_or l 1 0) e
 
--- what is stored is of the problem that is seen
+-- what is kept is of the problem that is shown
 pub shown : {s t : Stated} {maps : MapGroup} {pairs : List (List ℕ × ℕ)} {numbers : MapGroup} {blocks : List (List ℕ × ℕ)} → s ≡ t → AreOrbits s maps pairs numbers blocks → AreOrbits t maps pairs numbers blocks
 shown {maps = maps} {pairs = pairs} {numbers = numbers} {blocks = blocks} e K = subst (λ s. AreOrbits s maps pairs numbers blocks) e K
 

@@ -5,7 +5,7 @@ use Rattle.df_kramer_mesner.specs.OrbitSystems.{has_in_orbit, is_kept, orbits_of
 use Rattle.df_kramer_mesner.specs.Laws.{AreSparse}
 use Rattle.df_matrix.specs.Limits.{or_else, column_limit_of, entry_limit_of}
 use Rattle.df_matrix.proofs.PlaceLists.{places_long}
-use Rattle.df_matrix.proofs.matrix.pieces_of.Goals as goal
+use Rattle.df_matrix.proofs.matrix.parts_of.Goals as goal
 
 pub targets_of-requires : goal.targets_of-requires
 targets_of-requires c =
