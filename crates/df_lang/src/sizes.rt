@@ -12,7 +12,11 @@ use df_sets::NumberSet;
 
 /// The set of the sizes of the rest of a line, each from 2 to `most`: one in version 1, at least one in version 2.
 #[tactic(auto, unfolding(crate::specs::Values::sizes_read))]
-pub(crate) fn sizes(version: u8, most: u64, tokens: &mut Tokens<'_>) -> Result<NumberSet, SourceFault>
+pub(crate) fn sizes(
+    version: u8,
+    most: u64,
+    tokens: &mut Tokens<'_>,
+) -> Result<NumberSet, SourceFault>
     requires { most ≤ 16 }
     ensures value { result ≡ sizes_read version most (left tokens.old) }
     ensures range { IfOk result (λ set. Rises 2 17 set) }
@@ -30,7 +34,11 @@ pub(crate) fn sizes(version: u8, most: u64, tokens: &mut Tokens<'_>) -> Result<N
 }
 
 #[tactic(auto, unfolding(crate::specs::Values::sizes_from))]
-fn more_sizes(most: u64, sizes: NumberSet, tokens: &mut Tokens<'_>) -> Result<NumberSet, SourceFault>
+fn more_sizes(
+    most: u64,
+    sizes: NumberSet,
+    tokens: &mut Tokens<'_>,
+) -> Result<NumberSet, SourceFault>
     requires most { most ≤ 16 }
     requires range { Rises 2 17 sizes }
     ensures value { result ≡ sizes_from most sizes (left tokens.old) }
