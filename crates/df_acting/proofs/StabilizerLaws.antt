@@ -3,16 +3,12 @@ use Rattle.std.proofs.Common.{◌≡◌, ◌*◌, Bool, true, false, List, [], �
 use Rattle.std.proofs.lemmas.Bool.{false_from_ne_true, both_ways}
 use Rattle.df_lists.specs.Membership.{In, count}
 use Rattle.df_lists.specs.Totals.{one}
-use Rattle.df_lists.proofs.ListTotals.{list_total, list_total_agree, count_total, count_agree, list_total_times, list_total_swap}
+use Rattle.df_lists.proofs.ListTotals.{list_total, length_total, list_total_agree, count_total, count_agree, list_total_times, list_total_swap}
 use Rattle.df_lists.proofs.MemberLaws.{count_none}
 use Rattle.df_lists.specs.Orders.{IsEquality}
 use Rattle.df_acting.specs.Orbits.{IsMapGroup, IsSpread, in_one_orbit_by}
 use Rattle.df_lists.proofs.TestLaws.{same_tests, any_from}
 use Rattle.df_acting.proofs.OrbitLaws.{one_orbit_gives}
-
-length_total : {X : Type 0} (xs : List X) → length xs ≡ list_total (λ x. 1) xs
-length_total [] = refl
-length_total (x ∷ xs) = omega (arith, length_total xs)
 
 module _ {M X : Type 0} (eq : X → X → Bool) (act : M → X → X) (D : X → Type 0) (maps : List M) (E : IsEquality eq) (G : IsMapGroup act D maps)
     (mul : M → M → M) (after : (f g : M) → In maps f → In maps g → (x : X) → D x → act (mul f g) x ≡ act f (act g x)) (turn : (f : M) → In maps f → (t : M → Bool) → count t maps ≡ count (λ g. t (mul f g)) maps) where

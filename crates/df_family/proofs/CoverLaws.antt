@@ -9,7 +9,7 @@ use Rattle.df_lists.specs.NumberSets.{has_member, IsSet}
 use Rattle.df_lists.specs.Totals.{total, one}
 use Rattle.df_lists.proofs.TotalLaws.{total_same, total_turn, total_at, total_zero}
 use Rattle.df_lists.proofs.CountLaws.{list_count, list_count_is, list_total_is, list_count_map, list_total_filter, list_total_range}
-use Rattle.df_lists.proofs.ListTotals.{list_total, list_total_none}
+use Rattle.df_lists.proofs.ListTotals.{list_total, length_total, list_total_none}
 use Rattle.df_group.specs.Elements.{order_of, group_of, IsGroup, minus}
 use Rattle.df_group.specs.Subgroups.{same_coset}
 use Rattle.df_group.specs.ClosedSets.{IsClosed}
@@ -23,7 +23,7 @@ use Rattle.df_family.specs.Developments.{is_listed, translates_under}
 use Rattle.df_family.specs.Tables.{finite_points}
 use Rattle.df_family.specs.Covers.{coset_points, occurs_at, summand_at}
 use Rattle.df_family.proofs.TranslateLaws.{shifted_finite, shifted_fixed, hit}
-use Rattle.df_family.proofs.ShiftLaws.{all_pass, one_both, length_total, list_total_set, sum_listed, stabilizer_some}
+use Rattle.df_family.proofs.ShiftLaws.{all_pass, one_both, list_total_set, sum_listed, stabilizer_some}
 
 nothing : (v : Bool) (z : ℕ) → z ≡ 0 → cond v z 0 ≡ 0
 nothing true z h = h

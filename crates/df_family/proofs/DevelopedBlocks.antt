@@ -13,7 +13,8 @@ use Rattle.df_lang.specs.Problems.{Stated, IsStated, IsBlock, IsSize, point_coun
 use Rattle.df_family.specs.Translates.{translate}
 use Rattle.df_family.specs.Developments.{is_listed, translates_under, develop_under}
 use Rattle.df_family.proofs.TranslateLaws.{hit, shifted_within, there_and_back, back_and_there}
-use Rattle.df_family.proofs.ShiftLaws.{length_total, list_total_set}
+use Rattle.df_lists.proofs.ListTotals.{length_total}
+use Rattle.df_family.proofs.ShiftLaws.{list_total_set}
 use Rattle.df_family.proofs.TableRows.{All-flat_map}
 
 length_set : (n : ℕ) (set : List ℕ) → IsSet n set → length set ≡ total (λ i. one (has_member set i)) n

@@ -1,5 +1,5 @@
 -- The elements of a subgroup as shifts: sums over them, and those that give the same translate.
-use Rattle.std.proofs.Common.{◌≡◌, ℕ, zero, suc, ◌*◌, ◌<◌, ◌≤◌, Bool, true, false, cond, eqb, not, ◌&&◌, ◌||◌, nat_lt, List, [], ◌∷◌, filter, length, refl, sym, ap, ◌∙◌, inl, inr, arith, subst, lt-ltb, le-ltb, eq-eqb, ne_eqb}
+use Rattle.std.proofs.Common.{◌≡◌, ℕ, zero, suc, ◌*◌, ◌<◌, ◌≤◌, Bool, true, false, cond, eqb, not, ◌&&◌, ◌||◌, nat_lt, List, [], ◌∷◌, filter, refl, sym, ap, ◌∙◌, inl, inr, arith, subst, lt-ltb, le-ltb, eq-eqb, ne_eqb}
 use Rattle.std.specs.List.{range_with_len, list_any}
 use Rattle.std.proofs.lemmas.Bool.{cases_lt, eqb-true}
 use Rattle.std.proofs.lemmas.Map.Views.{any-filter_same}
@@ -21,10 +21,6 @@ use Rattle.df_lang.specs.Problems.{Stated, point_count}
 use Rattle.df_family.specs.Translates.{translate, same_translate, fixes, stabilizer_under}
 use Rattle.df_family.specs.Developments.{is_listed}
 use Rattle.df_family.proofs.TranslateLaws.{same_by_stabilizer, translate_zero}
-
-pub length_total : {X : Type 0} (xs : List X) → length xs ≡ list_total (λ x. 1) xs
-length_total [] = refl
-length_total (x ∷ xs) = let ih = length_total xs in omega arith
 
 -- a sum over a set is one over all numbers below its bound
 pub list_total_set : (n : ℕ) (set : List ℕ) (F : ℕ → ℕ) → IsSet n set → list_total F set ≡ total (λ x. cond (has_member set x) (F x) 0) n

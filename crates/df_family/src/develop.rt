@@ -14,11 +14,12 @@ ghost use Rattle.df_lang.specs.Problems.{IsBlock, IsStated, point_count};
 ghost use Rattle.df_family.specs.Developments.{develop, develop_under, is_listed as is_listed_by};
 ghost use Rattle.df_family.specs.Remainders.{is_listed_shift as is_listed_shift_by, IsFixing, IsFixingOf};
 
-use crate::problem_parts::{difference, member_at, order};
+use crate::problem_pieces::{difference, member_at, order};
 use crate::translate::{fixing, translated};
 use df_group::{Elem, Subgroup};
 use df_lang::{Kind, Member, Problem};
-use df_subsets::{Block, Point};
+use df_sets::NumberSet;
+use df_subsets::Block;
 use std::marker::Model;
 
 /// What remains of the development of a problem's family, seen as the list of its blocks.
@@ -27,8 +28,8 @@ pub struct Develop<'a> {
     problem: &'a Problem,
     shifts: Subgroup,
     member: usize,
-    shift: u8,
-    fixing: Block,
+    shift: Elem,
+    fixing: NumberSet,
 }
 
 impl<'a> Model for Develop<'a> {
@@ -65,7 +66,7 @@ impl<'a> Develop<'a> {
             problem,
             shifts,
             member: 0,
-            shift: 0,
+            shift: Elem(0),
             fixing,
         }
     }
@@ -76,12 +77,12 @@ impl<'a> Develop<'a> {
     {
         let problem = self.problem;
         let member = member_at(problem, self.member)?;
-        let block = translated(problem, &member.block, Elem(self.shift));
-        match next_listed(problem, &self.shifts, &member, &self.fixing, self.shift + 1) {
+        let block = translated(problem, &member.block, self.shift);
+        match next_listed(problem, &self.shifts, &member, &self.fixing, self.shift.0 + 1) {
             Some(shift) => self.shift = shift,
             None => {
                 self.member += 1;
-                self.shift = 0;
+                self.shift = Elem(0);
                 self.fixing = fixing_of(problem, &self.shifts, self.member);
             }
         }
@@ -90,15 +91,15 @@ impl<'a> Develop<'a> {
 }
 
 // The shifts that fix the block of this member, where it is short.
-fn fixing_of(problem: &Problem, shifts: &Subgroup, member: usize) -> Block
+fn fixing_of(problem: &Problem, shifts: &Subgroup, member: usize) -> NumberSet
     requires { IsSubgroup problem.now.group shifts.now }
     ensures fixing { IsFixingOf problem.now shifts.now (drop member problem.now.family) result }
     ensures rules { IsStated problem.now }
 {
     match member_at(problem, member) {
-        None => Block::empty(),
+        None => NumberSet::empty(),
         Some(member) => match member.kind {
-            Kind::Base => Block::empty(),
+            Kind::Base => NumberSet::empty(),
             Kind::Short => fixing(problem, shifts, &member.block),
         },
     }
@@ -109,9 +110,9 @@ fn next_listed(
     problem: &Problem,
     shifts: &Subgroup,
     member: &Member,
-    fixing: &Block,
+    fixing: &NumberSet,
     from: u8,
-) -> Option<u8>
+) -> Option<Elem>
     requires from { from ≤ order_of problem.now.group }
     requires rules { IsStated problem.now }
     requires subgroup { IsSubgroup problem.now.group shifts.now }
@@ -121,7 +122,7 @@ fn next_listed(
 {
     for g in from..order(problem) {
         if is_listed_shift(problem, shifts, member, fixing, Elem(g)) {
-            return Some(g);
+            return Some(Elem(g));
         }
     }
     None
@@ -132,7 +133,7 @@ fn is_listed_shift(
     problem: &Problem,
     shifts: &Subgroup,
     member: &Member,
-    fixing: &Block,
+    fixing: &NumberSet,
     g: Elem,
 ) -> bool
     requires below { g < order_of problem.now.group }
@@ -146,7 +147,7 @@ fn is_listed_shift(
 }
 
 // Whether the member's translate by a shift g is listed.
-fn is_listed(problem: &Problem, shifts: &Subgroup, member: &Member, fixing: &Block, g: Elem) -> bool
+fn is_listed(problem: &Problem, shifts: &Subgroup, member: &Member, fixing: &NumberSet, g: Elem) -> bool
     requires below { g < order_of problem.now.group }
     requires shift { has_member shifts.now g ≡ true }
     requires rules { IsStated problem.now }
@@ -162,12 +163,12 @@ fn is_listed(problem: &Problem, shifts: &Subgroup, member: &Member, fixing: &Blo
 }
 
 // Whether the difference of g from each lower element isn't one of these.
-fn is_first(problem: &Problem, fixing: &Block, g: Elem) -> bool
+fn is_first(problem: &Problem, fixing: &NumberSet, g: Elem) -> bool
     requires { g < order_of problem.now.group }
     ensures { result ≡ not (any_below (λ h. has_member fixing.now (minus (group_of problem.now.group) g h)) g) }
 {
     for h in 0..g.0 {
-        if fixing.has(Point(difference(problem, g, Elem(h)).0)) {
+        if fixing.has(difference(problem, g, Elem(h)).0) {
             return false;
         }
     }

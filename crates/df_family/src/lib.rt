@@ -1,11 +1,12 @@
 //! Difference families: their developments, their difference tables, and the verdict on them.
-//! It stands on df_lang for problems, targets and balance, and on df_group and df_subsets for the arithmetic of points.
+//! It stands on df_lang for problems, targets and balance, on df_group and df_subsets for the arithmetic of points, and on df_sets
+//! for the sets of shifts that fix a block.
 //! The crates above use `Develop`, `Table` and `verify`, and cite the definitions of its specs/; that a verdict tells balance is a clause of `verify`.
 #![tactic(auto)]
 
 mod develop;
 mod laws;
-mod problem_parts;
+mod problem_pieces;
 mod table;
 mod tally;
 #[cfg(test)]

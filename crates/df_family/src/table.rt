@@ -12,7 +12,7 @@ ghost use Rattle.df_family.specs.Tables.{differences, singles, pairs, pairs_of, 
 ghost use Rattle.df_family.specs.Tallies.{number_at, HasNumber, IsCell, IsTallyOf};
 
 use crate::OutOfMemory;
-use crate::problem_parts::{fixed, fixed_point, order};
+use crate::problem_pieces::{fixed, fixed_point, order};
 use crate::tally::Tally;
 use df_group::Elem;
 use df_lang::{Problem, target};

@@ -13,7 +13,7 @@ ghost use Rattle.df_family.specs.Developments.{translates};
 ghost use Rattle.df_family.specs.Tables.{finite_points as finite_points_of, occurs, summand};
 ghost use Rattle.df_family.specs.Tallies.{number_at, IsCell, HasNumber, IsWithin};
 
-use crate::problem_parts::{difference, fixed_point, order};
+use crate::problem_pieces::{difference, fixed_point, order};
 use crate::table::Row;
 use crate::translate::stabilizer;
 use arrayvec::ArrayVec;

@@ -2,7 +2,7 @@
 ghost use Rattle.std.specs.Prelude.{◌≤◌, ◌^◌, length};
 
 use super::*;
-use crate::problem_parts::member_at;
+use crate::problem_pieces::member_at;
 use df_group::Elem;
 use df_lang::{Problem, parse};
 use df_subsets::{Block, Point};

@@ -6,9 +6,10 @@ ghost use Rattle.df_group.specs.Subgroups.{IsSubgroup};
 ghost use Rattle.df_lang.specs.Problems.{point_count};
 ghost use Rattle.df_family.specs.Translates.{translate, fixes, stabilizer as stabilizer_of};
 
-use crate::problem_parts::{order, sum};
+use crate::problem_pieces::{order, sum};
 use df_group::{Elem, Subgroup};
 use df_lang::Problem;
+use df_sets::NumberSet;
 use df_subsets::{Block, Point};
 
 /// How many elements g of the group there are with block + g = block, where the block's points lie below v.
@@ -18,19 +19,19 @@ pub fn stabilizer(problem: &Problem, block: &Block) -> u32
     ensures some { result ≤ order_of problem.now.group }
 {
     let elements = Subgroup::whole(&problem.shape);
-    u32::from(fixing(problem, &elements, block).size())
+    u32::from(fixing(problem, &elements, block).len())
 }
 
-/// The elements g of a subgroup with block + g = block, as a set of points.
-pub fn fixing(problem: &Problem, shifts: &Subgroup, block: &Block) -> Block
+/// The elements g of a subgroup with block + g = block.
+pub fn fixing(problem: &Problem, shifts: &Subgroup, block: &Block) -> NumberSet
     requires subgroup { IsSubgroup problem.now.group shifts.now }
     requires points { All (λ p. p < point_count problem.now) block.now }
     ensures { result ≡ filter (fixes problem.now block.now) shifts.now }
 {
-    let mut fixing = Block::empty();
+    let mut fixing = NumberSet::empty();
     for g in 0..order(problem) {
         if is_fixing(problem, shifts, block, Elem(g)) {
-            fixing.insert(Point(g));
+            fixing.insert(g);
         }
     }
     fixing

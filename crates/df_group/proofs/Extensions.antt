@@ -10,7 +10,7 @@ use Rattle.df_lists.proofs.LeastLaws.{any_from, any_found}
 use Rattle.df_lists.proofs.SetLaws.{set_below, set_longer}
 use Rattle.df_lists.proofs.RisingLists.{has_more}
 use Rattle.df_group.specs.Elements.{group_of, order_of, IsShape}
-use Rattle.df_group.specs.Subgroups.{exponent_of, sums, generated, IsKept, IsSubgroup}
+use Rattle.df_group.specs.Subgroups.{exponent_of, sums, generated, IsStored, IsSubgroup}
 use Rattle.df_group.proofs.ElementLaws.{is_group}
 use Rattle.df_group.proofs.GroupLaws.{zero_plus}
 use Rattle.df_group.proofs.MultipleLaws.{are_multiples}
@@ -77,18 +77,18 @@ module _ (fs : List ℕ) (is : IsShape fs) (g : ℕ) (set gs : List ℕ) (e : ge
           reach c x (k % c) (G.plus T s) (mod-lt k (omega arith)) (member (G.plus T s) inside) whole
 
 -- the cosets up to such a multiple, or up to the exponent, are the next subgroup
-pub extended_all : (fs : List ℕ) → IsShape fs → (g : ℕ) (set next : List ℕ) → IsSubgroup fs set → IsKept next → ((x : ℕ) → has_member next x ≡ is_reached fs g set (exponent_of fs) x)
+pub extended_all : (fs : List ℕ) → IsShape fs → (g : ℕ) (set next : List ℕ) → IsSubgroup fs set → IsStored next → ((x : ℕ) → has_member next x ≡ is_reached fs g set (exponent_of fs) x)
     → (gs : List ℕ) → set ≡ generated fs gs → next ≡ generated fs (g ∷ gs)
-extended_all fs is g set next sub kept h gs e = next_generated fs is g gs set next kept e h
+extended_all fs is g set next sub stored h gs e = next_generated fs is g gs set next stored e h
 
 pub extended_first : (fs : List ℕ) → IsShape fs → (g c : ℕ) (set next : List ℕ) → IsSubgroup fs set → 1 ≤ c → c ≤ exponent_of fs → has_member set ((group_of fs).times c g) ≡ true
-    → IsKept next → ((x : ℕ) → has_member next x ≡ is_reached fs g set c x) → (gs : List ℕ) → set ≡ generated fs gs → next ≡ generated fs (g ∷ gs)
-extended_first fs is g c set next (hs, d) some low m kept h gs e =
-    next_generated fs is g gs set next kept e (λ x. h x ∙ reached_all fs is g set hs d c (exponent_of fs) some low m x)
+    → IsStored next → ((x : ℕ) → has_member next x ≡ is_reached fs g set c x) → (gs : List ℕ) → set ≡ generated fs gs → next ≡ generated fs (g ∷ gs)
+extended_first fs is g c set next (hs, d) some low m stored h gs e =
+    next_generated fs is g gs set next stored e (λ x. h x ∙ reached_all fs is g set hs d c (exponent_of fs) some low m x)
 
-pub subgroup_kept : (fs : List ℕ) → IsShape fs → (set : List ℕ) → IsSubgroup fs set → IsKept set
-unfolding IsKept
-subgroup_kept fs is set (gs, e) = set_longer (order_of fs) 128 set is.small (subst (IsSet (order_of fs)) e (generated_set fs gs))
+pub subgroup_stored : (fs : List ℕ) → IsShape fs → (set : List ℕ) → IsSubgroup fs set → IsStored set
+unfolding IsStored
+subgroup_stored fs is set (gs, e) = set_longer (order_of fs) 128 set is.small (subst (IsSet (order_of fs)) e (generated_set fs gs))
 
 -- each member of a subgroup is an element
 pub subgroup_below : (fs set : List ℕ) → IsSubgroup fs set → (s : ℕ) → has_member set s ≡ true → s < order_of fs

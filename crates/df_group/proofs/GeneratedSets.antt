@@ -12,7 +12,7 @@ use Rattle.df_lists.proofs.MemberLaws.{In-append_cases, In-append_left, In-appen
 use Rattle.df_lists.proofs.SetLaws.{same_sets, filter_is_set, set_longer, filter_all, in_range, zero_set}
 use Rattle.df_lists.proofs.TestLaws.{has_from, has_gives}
 use Rattle.df_group.specs.Elements.{group_of, order_of, IsShape}
-use Rattle.df_group.specs.Subgroups.{exponent_of, sums, generated, IsKept}
+use Rattle.df_group.specs.Subgroups.{exponent_of, sums, generated, IsStored}
 use Rattle.df_group.proofs.ElementLaws.{is_group}
 use Rattle.df_group.proofs.SumLaws.{sum_more, sum_gives, sum_within, sum_tail, sum_among, sum_generator, sum_plus, sum_times, sum_none, sum_none_gives}
 
@@ -69,10 +69,10 @@ module _ (fs : List ℕ) (is : IsShape fs) where
           sum_member (g ∷ gs) x (subst (In (sums fs (g ∷ gs))) whole (sum_more fs is g gs c.0 s.0 c.1 inside))
 
   -- so the next subgroup is told by its members
-  pub next_generated : (g : ℕ) (gs set next : List ℕ) → IsKept next → set ≡ generated fs gs
+  pub next_generated : (g : ℕ) (gs set next : List ℕ) → IsStored next → set ≡ generated fs gs
       → ((x : ℕ) → has_member next x ≡ any_below (λ c. any_below (λ s. has_member set s && eqb ((group_of fs).plus ((group_of fs).times c g) s) x) (order_of fs)) (exponent_of fs))
       → next ≡ generated fs (g ∷ gs)
-  unfolding IsKept
+  unfolding IsStored
   next_generated g gs set next i e h =
       same_sets 128 next (generated fs (g ∷ gs)) i (set_longer (order_of fs) 128 (generated fs (g ∷ gs)) is.small (generated_set fs (g ∷ gs)))
       (λ x l. h x ∙ sym (next_members g gs set e x))

@@ -47,5 +47,5 @@ abbrev pub same_coset : List ℕ → List ℕ → ℕ → ℕ → Bool
 same_coset fs members a b = has_member members (minus (group_of fs) a b)
 
 -- the list is the increasing list of its members, which lie below 128
-unfoldable pub IsKept : List ℕ → Type 0
-IsKept set = IsSet 128 set
+unfoldable pub IsStored : List ℕ → Type 0
+IsStored set = IsSet 128 set

@@ -4,6 +4,7 @@
 //! Laws for the rooms above: proofs/ElementLaws, proofs/ExponentLaws, proofs/GroupLaws, proofs/MultipleLaws, proofs/SubgroupLaws, proofs/UnitLaws.
 #![tactic(auto)]
 
+mod copies;
 mod laws;
 mod places;
 mod residues;
@@ -12,6 +13,7 @@ mod subgroup;
 #[cfg(test)]
 mod tests;
 
+pub use copies::copied_items;
 pub use laws::{
     elements_are_numbered, multiples_are_multiples, products_are_groups, subgroups_are_closed,
     units_are_undone,

@@ -9,6 +9,7 @@ ghost use Rattle.df_group.specs.Elements.{order_of, group_of, minus, number, res
 ghost use Rattle.df_group.specs.Refusals.{refusal, is_outside};
 ghost use Rattle.df_group.specs.Subgroups.{exponent_of, is_common_multiple, is_unit};
 
+use crate::copies::copied_items;
 use crate::{places, residues};
 use arrayvec::ArrayVec;
 use std::marker::Model;
@@ -85,7 +86,7 @@ impl Shape {
         }
         let order = order as u8;
         Ok(Shape {
-            factors: kept(factors),
+            factors: copied_items(factors),
             order,
             exponent: exponent_up_to(factors, order),
         })
@@ -96,7 +97,7 @@ impl Shape {
         ensures { result ≡ self.now }
     {
         Shape {
-            factors: kept(self.factors.as_slice()),
+            factors: copied_items(self.factors.as_slice()),
             order: self.order,
             exponent: self.exponent,
         }
@@ -231,17 +232,6 @@ fn reduced(m: u32, exponent: u8) -> u16
         m as u16
     } else {
         (m % exponent) as u16
-    }
-}
-
-fn kept(factors: &[u16]) -> ArrayVec<u16, 7>
-    requires { length factors.now ≤ 7 }
-    ensures { result.items ≡ factors.now }
-{
-    let mut kept = ArrayVec::new();
-    match kept.try_extend_from_slice(factors) {
-        Ok(()) => kept,
-        Err(_) => unreachable!(),
     }
 }
 

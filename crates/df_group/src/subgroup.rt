@@ -1,6 +1,6 @@
 // Subgroups, as sets of elements.
 //
-// A subgroup is kept as the set of its members, so a look takes one step, whatever the generators were. It is generated one
+// A subgroup is stored as the set of its members, so a look takes one step, whatever the generators were. It is generated one
 // generator after the other: one that is in already adds nothing, and of another one the cosets by its multiples are put in, up
 // to the first multiple that is in already. So each member is put in once: a subgroup of n members takes n sums, beside a look for
 // each generator. A generator that isn't in at least doubles the subgroup, so at most seven count.
@@ -12,7 +12,7 @@ ghost use Rattle.std.proofs.Common.{rules};
 ghost use Rattle.df_lists.specs.LeastMembers.{any_below};
 ghost use Rattle.df_lists.specs.NumberSets.{has_member, with_member};
 ghost use Rattle.df_group.specs.Elements.{order_of, group_of, IsShape};
-ghost use Rattle.df_group.specs.Subgroups.{generated, canonical_of, same_coset, IsKept, IsSubgroup};
+ghost use Rattle.df_group.specs.Subgroups.{generated, canonical_of, same_coset, IsStored, IsSubgroup};
 
 use crate::shape::{Elem, Shape};
 use arrayvec::ArrayVec;
@@ -148,10 +148,10 @@ impl Subgroup {
     // Puts in each sum of `shift` and a member of the subgroup.
     fn put_coset(&mut self, shape: &Shape, subgroup: &Subgroup, shift: Elem)
         requires shape { IsShape shape.now }
-        requires kept { IsKept self.old }
+        requires stored { IsStored self.old }
         requires subgroup { IsSubgroup shape.now subgroup.now }
         requires shift { shift < order_of shape.now }
-        ensures kept { IsKept self.new }
+        ensures stored { IsStored self.new }
         ensures members { (x : ℕ) → has_member self.new x
             ≡ (has_member self.old x || any_below (λ s. has_member subgroup.now s && (group_of shape.now).plus shift s == x) (order_of shape.now)) }
     {
@@ -163,7 +163,7 @@ impl Subgroup {
 
     fn empty() -> Subgroup
         ensures none { result ≡ [] }
-        ensures kept { IsKept result }
+        ensures stored { IsStored result }
     {
         Subgroup {
             members: NumberSet::empty(),
@@ -173,7 +173,7 @@ impl Subgroup {
     fn put(&mut self, e: Elem)
         requires { e < 128 }
         ensures member { self.new ≡ with_member e self.old }
-        ensures kept { IsKept self.new }
+        ensures stored { IsStored self.new }
     {
         self.members.insert(e.0);
     }

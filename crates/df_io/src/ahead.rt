@@ -12,7 +12,7 @@ use std::marker::Model;
 /// The most bytes that are taken from a source at once.
 pub const PIECE: usize = 4096;
 
-// At most a piece of bytes, in order.
+/// At most a piece of bytes, in order.
 #[derive(Drop)]
 pub struct Ahead {
     piece: [u8; PIECE],
@@ -22,18 +22,18 @@ pub struct Ahead {
 
 impl Model for Ahead {
     ghost use Rattle.std.specs.Prelude.{ℕ, ◌≤◌, List};
-    ghost use Rattle.df_io.specs.Lines.{part};
+    ghost use Rattle.std.specs.List.{slice_range};
     ghost use Rattle.df_io.specs.declared.ahead.TheConstants.{PIECE};
 
     ghost Value = { List ℕ };
 
-    ghost view = { λ a. part a.piece a.start a.end };
+    ghost view = { λ a. slice_range a.piece a.start a.end };
 
     ghost invariant = { λ a. (a.start ≤ a.end) × (a.end ≤ PIECE) };
 }
 
 impl Ahead {
-    // No bytes.
+    /// No bytes.
     pub fn new() -> Ahead
         ensures { result ≡ [] }
     {
@@ -44,7 +44,7 @@ impl Ahead {
         }
     }
 
-    // The bytes.
+    /// The bytes.
     pub fn bytes(&self) -> &[u8]
         ensures bytes { result.now ≡ self.now }
         ensures few { length result.now ≤ PIECE }
@@ -52,7 +52,7 @@ impl Ahead {
         &self.piece[self.start..self.end]
     }
 
-    // Drops the first bytes.
+    /// Drops the first bytes.
     pub fn pass(&mut self, count: usize)
         requires { count ≤ length self.old }
         ensures { self.new ≡ drop count self.old }
@@ -60,15 +60,15 @@ impl Ahead {
         self.start += count;
     }
 
-    // Drops all bytes.
+    /// Drops all bytes.
     pub fn clear(&mut self)
         ensures { self.new ≡ [] }
     {
         self.start = self.end;
     }
 
-    // Moves the bytes before the first line feed to the end of the line, and drops the line feed: `true`. Moves all
-    // bytes where no line feed is among them: `false`.
+    /// Moves the bytes before the first line feed to the end of the line, and drops the line feed: `true`. Moves all
+    /// bytes where no line feed is among them: `false`.
     pub fn move_line(&mut self, line: &mut Vec<u8>) -> Result<bool, OutOfMemory>
         ensures found { result ≡ Ok true → Moves (10 ∷ []) self.old self.new line.old.items line.new.items }
         ensures all { result ≡ Ok false → Moves [] self.old self.new line.old.items line.new.items }
@@ -91,7 +91,7 @@ impl Ahead {
         }
     }
 
-    // Takes the next bytes of the source in the place of those here, at most `most` of them, and says how many.
+    /// Takes the next bytes of the source in the place of those here, at most `most` of them, and says how many.
     pub fn fill<S: Source>(&mut self, input: &mut S, most: usize) -> Result<usize, Failed>
         requires some { 0 < most }
         requires few { most ≤ PIECE }

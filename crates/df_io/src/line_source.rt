@@ -10,7 +10,7 @@ use std::alloc::Global;
 
 /// The lines of a source, one at a time, within a limit on its bytes.
 ///
-/// A line is the bytes up to a line feed, which isn't part of it. Bytes after the last line feed are a line too where
+/// A line is the bytes up to a line feed, which doesn't belong to it. Bytes after the last line feed are a line too where
 /// there are any. Clauses see the reading as a `Stream` of `specs/Streams`, beside the source itself.
 #[derive(Drop)]
 pub struct LineSource<'s, S: Source> {

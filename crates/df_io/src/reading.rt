@@ -14,7 +14,7 @@ use std::marker::Model;
 // Room for a line of the usual length, which is taken at once.
 const USUAL_LINE: usize = 128;
 
-// What was taken of a source and not yet handed out, the line that was, and how the reading ended, once it has.
+/// What was taken of a source and not yet handed out, the line that was, and how the reading ended, once it has.
 #[derive(Drop)]
 pub struct Reading {
     ahead: Ahead,
@@ -50,7 +50,7 @@ impl Model for Reading {
 }
 
 impl Reading {
-    // Nothing is read yet.
+    /// Nothing is read yet.
     pub fn new(alloc: Global, limit: u64) -> Result<Reading, OutOfMemory>
         requires { limit ≤ MOST_BYTES }
         ensures { IfOk result (λ r. r ≡ new_stream limit) }
@@ -65,7 +65,7 @@ impl Reading {
         })
     }
 
-    // Reads the next line, where one is left.
+    /// Reads the next line, where one is left.
     pub fn next_line<S: Source>(&mut self, input: &mut S) -> Result<bool, ReadError>
         ensures reads { Reads S.left S.faults self.old self.new input.old input.new }
         ensures some { result ≡ Ok true
@@ -123,21 +123,21 @@ impl Reading {
         }
     }
 
-    // The line that was read last.
+    /// The line that was read last.
     pub fn line(&self) -> &[u8]
         ensures { result.now ≡ self.now.line }
     {
         &self.line
     }
 
-    // Its number, and 0 before the first.
+    /// Its number, and 0 before the first.
     pub fn number(&self) -> u64
         ensures { result ≡ self.now.number }
     {
         self.number
     }
 
-    // Reads the rest, and keeps none of it.
+    /// Reads the rest, and keeps none of it.
     pub fn finish<S: Source>(&mut self, input: &mut S) -> Result<(), ReadError>
         ensures reads { Reads S.left S.faults self.old self.new input.old input.new }
         ensures ended { self.new.ended ≡ Some result }

@@ -8,8 +8,7 @@ use crate::OutOfMemory;
 use crate::names::name;
 use crate::pieces::Name;
 use crate::problem::Problem;
-use arrayvec::ArrayVec;
-use df_group::Subgroup;
+use df_group::{Subgroup, copied_items};
 use indexmap::IndexMap;
 use std::alloc::Global;
 
@@ -33,18 +32,6 @@ impl Problem {
             required: Vec::from_slice(alloc, &self.required)?,
             forbidden: Vec::from_slice(alloc, &self.forbidden)?,
         })
-    }
-}
-
-// The same items in a list of its own.
-fn copied_items<T: Copy + Default, const N: usize>(items: &[T]) -> ArrayVec<T, N>
-    requires { length items.now ≤ N }
-    ensures { result.items ≡ items.now }
-{
-    let mut copy = ArrayVec::new();
-    match copy.try_extend_from_slice(items) {
-        Ok(()) => copy,
-        Err(_) => unreachable!(),
     }
 }
 

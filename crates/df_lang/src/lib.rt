@@ -1,5 +1,5 @@
 //! Sources and problems: what a source states of a group, its fixed points, its targets and its blocks, and the rules that each problem keeps.
-//! It stands on df_io for lines and tokens, on df_group for the group, on df_subsets for the blocks, and on indexmap for names in order of appearance.
+//! It stands on df_io for lines and tokens, on df_group for the group, on df_subsets for the blocks, on df_sets for sets of sizes, and on indexmap for names in order of appearance.
 //! The crates above read sources by `parse` and print problems by `print`; they see a `Problem` as a record of numbers and lists, and cite the meaning of a
 //! source, the canonical lines, the target of two points and the balance of a list of blocks.
 #![tactic(auto)]

@@ -8,19 +8,23 @@ use crate::fault::SourceFault;
 use crate::tokens::{end, needed, number_in};
 use arrayvec::ArrayVec;
 use df_io::Tokens;
-use df_subsets::{Block, Point};
+use df_sets::NumberSet;
 
 /// The set of the sizes of the rest of a line, each from 2 to `most`: one in version 1, at least one in version 2.
 #[tactic(auto, unfolding(crate::specs::Values::sizes_read))]
-pub(crate) fn sizes(version: u8, most: u64, tokens: &mut Tokens<'_>) -> Result<Block, SourceFault>
+pub(crate) fn sizes(
+    version: u8,
+    most: u64,
+    tokens: &mut Tokens<'_>,
+) -> Result<NumberSet, SourceFault>
     requires { most ≤ 16 }
     ensures value { result ≡ sizes_read version most (left tokens.old) }
     ensures range { IfOk result (λ set. Rises 2 17 set) }
 {
     let token = needed(tokens)?;
     let k = number_in(2, most, SourceFault::SizeRange, token)?;
-    let mut set = Block::empty();
-    set.insert(Point(k as u8));
+    let mut set = NumberSet::empty();
+    set.insert(k as u8);
     if version == 1 {
         end(tokens)?;
         Ok(set)
@@ -30,7 +34,11 @@ pub(crate) fn sizes(version: u8, most: u64, tokens: &mut Tokens<'_>) -> Result<B
 }
 
 #[tactic(auto, unfolding(crate::specs::Values::sizes_from))]
-fn more_sizes(most: u64, sizes: Block, tokens: &mut Tokens<'_>) -> Result<Block, SourceFault>
+fn more_sizes(
+    most: u64,
+    sizes: NumberSet,
+    tokens: &mut Tokens<'_>,
+) -> Result<NumberSet, SourceFault>
     requires most { most ≤ 16 }
     requires range { Rises 2 17 sizes }
     ensures value { result ≡ sizes_from most sizes (left tokens.old) }
@@ -39,20 +47,20 @@ fn more_sizes(most: u64, sizes: Block, tokens: &mut Tokens<'_>) -> Result<Block,
     let mut set = sizes;
     while let Some(token) = tokens.next_token() {
         let k = number_in(2, most, SourceFault::SizeRange, token)?;
-        set.insert(Point(k as u8));
+        set.insert(k as u8);
     }
     Ok(set)
 }
 
 /// The sizes of a set, increasing.
-pub(crate) fn size_list(set: &Block) -> ArrayVec<u8, 15>
+pub(crate) fn size_list(set: &NumberSet) -> ArrayVec<u8, 15>
     requires { Rises 2 17 set.now }
     ensures { result.items ≡ set.now }
 {
-    let points = set.points();
     let mut sizes = ArrayVec::new();
-    for p in points.as_slice() {
-        sizes.push(p.0);
+    let mut rest = *set;
+    while let Some(size) = rest.pop_first() {
+        sizes.push(size);
     }
     sizes
 }

@@ -2,7 +2,7 @@ pub mod ApartLaws
 pub mod FilterSteps
 pub mod FixingCounts
 pub mod GroupOfMaps
-pub mod KeptLaws
+pub mod InvariantLaws
 pub mod LoopSteps
 pub mod MadeLaws
 pub mod MapsFacts

@@ -14,7 +14,7 @@ ghost use Rattle.df_maps.specs.Laws.{AreGroup};
 
 use crate::products::residues_of_products;
 use arrayvec::ArrayVec;
-use df_group::{Elem, Shape, Subgroup};
+use df_group::{Elem, Shape, Subgroup, copied_items};
 use df_subsets::{Block, Point};
 use std::marker::Model;
 
@@ -62,8 +62,8 @@ impl Maps {
         Maps {
             shape: self.shape.copied(),
             fixed: self.fixed,
-            products: kept(self.products.as_slice()),
-            shifts: kept(self.shifts.as_slice()),
+            products: copied_items(self.products.as_slice()),
+            shifts: copied_items(self.shifts.as_slice()),
         }
     }
 
@@ -204,16 +204,4 @@ fn members_of(shape: &Shape, subgroup: &Subgroup) -> ArrayVec<Elem, 128>
         members.push(Elem(number));
     }
     members
-}
-
-// The items once more.
-fn kept<T: Copy + Default>(items: &[T]) -> ArrayVec<T, 128>
-    requires { length items.now ≤ 128 }
-    ensures { result.items ≡ items.now }
-{
-    let mut kept = ArrayVec::new();
-    match kept.try_extend_from_slice(items) {
-        Ok(()) => kept,
-        Err(_) => unreachable!(),
-    }
 }

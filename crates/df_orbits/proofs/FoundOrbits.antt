@@ -1,4 +1,4 @@
--- The earliest members, one place after another.
+-- Representatives, found one place after another.
 use Rattle.std.proofs.Common.{◌≡◌, ℕ, ◌+◌, ◌<◌, Bool, true, false, not, cond, ◌||◌, ◌++◌, filter, List, [], ◌∷◌, length, get_or, take, drop, sym, ap, ◌∙◌, subst, ⊎_elim, append-nil}
 use Rattle.std.proofs.lemmas.Bool.{not_from_false, not_from_true, or_left, or_cases}
 use Rattle.std.proofs.lemmas.List.{take_more, take-append-drop, drop_more}

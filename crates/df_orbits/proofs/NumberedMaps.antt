@@ -1,4 +1,4 @@
--- Classes by the numbers of the maps.
+-- Orbits by the numbers of the maps.
 use Rattle.std.proofs.Common.{◌≡◌, ℕ, List, length, ap, ◌∙◌}
 use Rattle.std.specs.List.{list_any, range_with_len}
 use Rattle.df_lists.proofs.TestLaws.{any_map}

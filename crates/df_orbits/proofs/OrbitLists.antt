@@ -1,4 +1,4 @@
--- What is shown of the orbits that are kept.
+-- What is seen of the orbits that are stored.
 use Rattle.std.proofs.Common.{◌≡◌, ℕ, ◌<◌, map, List, length, get_or, refl, ap, ◌∙◌, slice_get, Some}
 use Rattle.std.proofs.lemmas.Option.{slice_get_read, slice_get-map}
 use Rattle.std.specs.Option.{option_map}

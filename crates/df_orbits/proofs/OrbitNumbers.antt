@@ -1,4 +1,4 @@
--- Where the earliest member of a block's orbit stands among all earliest members.
+-- Where the representative of a block's orbit stands among all representatives.
 use Rattle.std.proofs.Common.{◌≡◌, ℕ, suc, zero, ◌+◌, ◌<◌, ◌≤◌, Bool, true, false, ◌||◌, List, [], ◌∷◌, length, get_or, refl, sym, ap, ◌∙◌, subst, inl, inr, ◌⊎◌, arith, eqb, eq-eqb, eqb-true, ⊎_elim, slice_get, Some}
 use Rattle.std.proofs.lemmas.Option.{slice_get-get_or, get_or_from_slice_get, slice_get_within}
 use Rattle.std.proofs.lemmas.Bool.{both_ways, cases_order, cases_lt, false_from_ne_true}
@@ -14,7 +14,7 @@ use Rattle.df_subsets.proofs.SizedLists.{choose_is, candidates_sorted, candidate
 use Rattle.df_acting.specs.Orbits.{IsSpread}
 use Rattle.df_acting.specs.Representatives.{is_representative}
 use Rattle.df_lists.proofs.TestLaws.{same_tests, any_from, filter_agree}
-use Rattle.df_lists.proofs.ListPlaces.{In-get_or, In_place}
+use Rattle.df_lists.proofs.ListPlaces.{In-get_or, In-slice_get, In_place}
 use Rattle.df_lists.proofs.SortedLists.{sorted-filter}
 use Rattle.df_acting.proofs.RepresentativeLaws.{least_gives, least_same, least_least, least_once, representative_same}
 use Rattle.df_maps.proofs.SpreadLaws.{lists_equal, candidates_spread}
@@ -135,7 +135,7 @@ module _ (M : MapGroup) (A : AreGroup M) (sizes : List ℕ) where
             go (inr (inl l)) = absurd (both_ways (before (get_or E i []) (get_or E i [])) (lists_ordered.unlike (get_or E i [])) (subst (λ c. before (get_or E i []) c ≡ true) e (sorted_at before E i r [] members_sorted l within)))
             go (inr (inr l)) = absurd (both_ways (before (get_or E i []) (get_or E i [])) (lists_ordered.unlike (get_or E i [])) (subst (λ c. before c (get_or E i []) ≡ true) e (sorted_at before E r i [] members_sorted l h)))
 
--- where a search ends: the number, its earliest member, and the orbit alone
+-- where a search ends: the number, its representative, and the orbit alone
 abbrev pub Ends : MapGroup → List ℕ → List (List ℕ) → ℕ → Type 0
 Ends M b F r =
     r ≤ length F → ((i : ℕ) → i < r → before (get_or F i []) (representative_of M b) ≡ true) → ((i : ℕ) → r ≤ i → i < length F → before (get_or F i []) (representative_of M b) ≡ false)
@@ -155,6 +155,10 @@ search_ends M A sizes b set sized now is r = subst (λ F. Ends M b F r) (sym (ap
 
 pub listed_sorted : (M : MapGroup) → AreGroup M → (sizes : List ℕ) (now : List (List ℕ × ℕ)) → now ≡ block_orbits M sizes → IsSorted before (listed_representatives now)
 listed_sorted M A sizes now is = subst (IsSorted before) (sym (ap listed_representatives is ∙ members_are M (candidates (point_count M) sizes))) (members_sorted M A sizes)
+
+-- a block that stands among the representatives is its own
+pub listed_own : (M : MapGroup) → AreGroup M → (sizes : List ℕ) (now : List (List ℕ × ℕ)) → now ≡ block_orbits M sizes → (i : ℕ) (b : List ℕ) → slice_get (listed_representatives now) i ≡ Some b → representative_of M b ≡ b
+listed_own M A sizes now is i b at = member_own M A sizes b (subst (λ F. In F b) (ap listed_representatives is ∙ members_are M (candidates (point_count M) sizes)) (In-slice_get (listed_representatives now) i b at))
 
 -- the halves of a search
 pub half_below : (E : List (List ℕ)) (x : List ℕ) (middle : ℕ) → IsSorted before E → middle < length E → before (get_or E middle []) x ≡ true → (i : ℕ) → i < middle + 1 → before (get_or E i []) x ≡ true

@@ -1,16 +1,16 @@
 -- The orbits of several sizes, in one order.
 use Rattle.std.proofs.Common.{◌≡◌, ℕ, suc, zero, ◌+◌, ◌<◌, ◌≤◌, Bool, true, false, ◌&&◌, ◌||◌, cond, map, filter, List, [], ◌∷◌, All, length, get_or, refl, sym, ap, ap₂, ◌∙◌, subst, inl, inr, arith, eqb, eq-eqb, eqb-true, ⊎_elim}
 use Rattle.std.proofs.lemmas.Bool.{both_ways, cases_lt, false_from_ne_true}
-use Rattle.std.proofs.lemmas.List.Recursion.{is_sum_by}
 use Rattle.std.proofs.lemmas.List.Sorted.{sum_by-IsPermutation, All-permutation}
-use Rattle.std.specs.List.{flat_map, list_any, sum_by}
+use Rattle.std.specs.List.{flat_map, list_any}
 use Rattle.std.specs.List.Sorted.{IsPermutation}
 use Rattle.std.proofs.lemmas.Simd.{map-map}
 use Rattle.df_lists.specs.Membership.{In, count}
 use Rattle.df_lists.specs.NumberSets.{IsSet}
 use Rattle.df_lists.specs.Totals.{one}
 use Rattle.df_lists.proofs.MemberLaws.{In-filter, In-filter_gives, In-map, In-map_gives, count-append, count-map, count_none, count_some, count_gives, In-flat_map, In-flat_map_gives}
-use Rattle.df_lists.proofs.ListTotals.{list_total, count_total, count_most}
+use Rattle.df_lists.proofs.CountLaws.{list_total_is}
+use Rattle.df_lists.proofs.ListTotals.{count_total, count_most}
 use Rattle.df_subsets.specs.Blocks.{before}
 use Rattle.df_lists.specs.Orders.{IsSorted}
 use Rattle.df_subsets.specs.Subsets.{points, subsets, candidates, nonempty, same_list}
@@ -67,11 +67,8 @@ twice (x ∷ y ∷ ys) (suc i) h e =
     ]
 
 -- counts stay where a list is put into another order
-total_sum : {X : Type 0} (f : X → ℕ) (xs : List X) → list_total f xs ≡ sum_by f xs
-total_sum f xs = is_sum_by (list_total f) f refl (λ _ _. refl) xs
-
 count_permuted : {X : Type 0} (t : X → Bool) (xs ys : List X) → IsPermutation xs ys → count t ys ≡ count t xs
-count_permuted t xs ys h = count_total t ys ∙ total_sum (λ x. one (t x)) ys ∙ sum_by-IsPermutation (λ x. one (t x)) xs ys h ∙ sym (total_sum (λ x. one (t x)) xs) ∙ sym (count_total t xs)
+count_permuted t xs ys h = count_total t ys ∙ list_total_is (λ x. one (t x)) ys ∙ sum_by-IsPermutation (λ x. one (t x)) xs ys h ∙ sym (list_total_is (λ x. one (t x)) xs) ∙ sym (count_total t xs)
 
 and_right : (a b : Bool) → (a && b) ≡ true → b ≡ true
 and_right true b h = h

@@ -1,4 +1,4 @@
--- Classes of blocks under a group of maps, and their earliest members (Kramer and Mesner 1976, for t = 2).
+-- Orbits of blocks under a group of maps, and their representatives (Kramer and Mesner 1976, for t = 2).
 use Rattle.std.specs.Prelude.{ℕ, Bool, List, [], map, slice_index, slice_index_or}
 use Rattle.df_lists.specs.Membership.{count}
 use Rattle.df_subsets.specs.Blocks.{before}
@@ -19,7 +19,7 @@ representatives_of M blocks = representatives_by before (image M) (full_maps M) 
 abbrev pub orbit_size_in : MapGroup → List (List ℕ) → List ℕ → ℕ
 orbit_size_in M blocks b = count (λ c. are_in_one_orbit M c b) blocks
 
--- the orbits of the blocks, each by its earliest member and its size, in the order of these members
+-- the orbits of the blocks, each by its representative and its size, in the order of the representatives
 abbrev pub orbits_with_sizes : MapGroup → List (List ℕ) → List (List ℕ × ℕ)
 orbits_with_sizes M blocks = map (λ b. (b, orbit_size_in M blocks b)) (representatives_of M blocks)
 
@@ -31,14 +31,14 @@ pair_orbits M = orbits_with_sizes M (subsets (point_count M) 2)
 abbrev pub block_orbits : MapGroup → List ℕ → List (List ℕ × ℕ)
 block_orbits M sizes = orbits_with_sizes M (candidates (point_count M) sizes)
 
--- the earliest members, and the sizes, of listed orbits
+-- the representatives, and the sizes, of listed orbits
 abbrev pub listed_representatives : List (List ℕ × ℕ) → List (List ℕ)
 listed_representatives orbits = map (λ c. c.0) orbits
 
 abbrev pub orbit_sizes : List (List ℕ × ℕ) → List ℕ
 orbit_sizes orbits = map (λ c. c.1) orbits
 
--- the earliest member of the orbit of b
+-- the representative of the orbit of b: its earliest member
 abbrev pub representative_of : MapGroup → List ℕ → List ℕ
 representative_of M b = representative_by before (image M) (full_maps M) b
 

@@ -179,7 +179,7 @@ fn compare(rt: &impl Abort, alloc: Global, maps: &Maps, plain: &Plain, size: u8)
     assert!(rt; representatives.len() == orbits.len());
 }
 
-// The numbers of pairs are those that the list of orbits tells.
+// The numbers of pairs are those that the list of orbits gives.
 fn compare_pairs(rt: &impl Abort, alloc: Global, maps: &Maps) {
     let pairs = pair_orbits(alloc, maps).expect(rt, "ample memory");
     let images = Images::new(alloc, maps).expect(rt, "ample memory");

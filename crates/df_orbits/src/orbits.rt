@@ -3,10 +3,12 @@
 // A block without a mark is the first of its orbit; its images are marked, and those that are the block itself are counted,
 // since the number of maps divided by that is the size of the orbit. So the maps are gone through once for each orbit, and not
 // once for each block, at the cost of one bit a block.
-ghost use Rattle.std.specs.Prelude.{◌≡◌, ◌==◌, ◌||◌, ◌-◌, ◌*◌, ◌<◌, ◌≤◌, ◌∷◌, ◌++◌, [], ℕ, List, length, map, slice_get, slice_index_or, Some, Err, All, IfOk, IfErr, sum_by};
+ghost use Rattle.std.specs.Prelude.{◌≡◌, ◌==◌, ◌||◌, ◌-◌, ◌*◌, ◌<◌, ◌≤◌, ◌∷◌, ◌++◌, [], ℕ, true, false, List, length, map, slice_get, slice_index_or, Some, Err, All, IfOk, IfErr, sum_by};
 ghost use Rattle.std.specs.List.Sorted.{IsStrictlyIncreasing};
 ghost use Rattle.df_lists.specs.Membership.{In, count};
 ghost use Rattle.df_lists.specs.NumberSets.{IsSet};
+ghost use Rattle.df_lists.specs.Orders.{IsSorted};
+ghost use Rattle.df_subsets.specs.Blocks.{before};
 ghost use Rattle.df_subsets.specs.Subsets.{subsets, binomial as binomial_of};
 ghost use Rattle.df_maps.specs.FullMaps.{point_count};
 ghost use Rattle.df_orbits.specs.MarkedPlaces.{is_marked};
@@ -85,6 +87,7 @@ impl Orbits {
 
     /// The number of the orbit that a block is in, from 0.
     /// These are the maps that the orbits were made with, and the block has one of the sizes and lies below the number of points.
+    /// A representative is found by halving alone; for another block its images under all maps are gone through.
     pub fn number_of(&self, maps: &Maps, block: &Block) -> usize
         requires making { (sizes : List ℕ) × (self.now ≡ block_orbits maps.now sizes) × In sizes (length block.now) }
         requires block { IsSet (point_count maps.now) block.now }
@@ -93,12 +96,26 @@ impl Orbits {
         ensures representative { slice_get (listed_representatives self.now) result ≡ Some (representative_of maps.now block.now) }
         ensures orbit { (i : ℕ) (b : List ℕ) → slice_get (listed_representatives self.now) i ≡ Some b → are_in_one_orbit maps.now block.now b ≡ (i == result) }
     {
-        let least = maps.least_image(block);
+        maps.points();
+        let place = self.place_among(block);
+        if place < self.found.len() && self.found[place].block == *block {
+            return place;
+        }
+        self.place_among(&maps.least_image(block))
+    }
+
+    // How many representatives are earlier than a block.
+    fn place_among(&self, block: &Block) -> usize
+        requires { IsSorted before (listed_representatives self.now) }
+        ensures within { result ≤ length self.now }
+        ensures earlier { (i : ℕ) → i < result → before (slice_index_or (listed_representatives self.now) i []) block.now ≡ true }
+        ensures later { (i : ℕ) → result ≤ i → i < length self.now → before (slice_index_or (listed_representatives self.now) i []) block.now ≡ false }
+    {
         let mut low = 0;
         let mut high = self.found.len();
         while low < high {
             let middle = low + (high - low) / 2;
-            if self.found[middle].block < least {
+            if self.found[middle].block < *block {
                 low = middle + 1;
             } else {
                 high = middle;

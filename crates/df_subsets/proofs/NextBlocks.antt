@@ -77,8 +77,8 @@ next_is v b c r s e h =
 pub none_next : (v : ℕ) (b : List ℕ) → IsSet v b → later v b ≡ 0 → slice_get (subsets v (length b)) (rank v b + 1) ≡ None
 none_next v b r h = let here = rank_later v b r in slice_get_past (subsets v (length b)) (rank v b + 1) (omega (arith, here, h, subsets_long v (length b)))
 
-run_product : (a m q w kept : ℕ) → a ≡ m + 1 → w + q ≡ q * a → m * q + kept ≡ kept + w
-run_product a m q w kept e h = let f : w + q ≡ q * (m + 1) = h ∙ ap (λ n. q * n) e in omega (arith, f)
+run_product : (a m q w lower : ℕ) → a ≡ m + 1 → w + q ≡ q * a → m * q + lower ≡ lower + w
+run_product a m q w lower e h = let f : w + q ≡ q * (m + 1) = h ∙ ap (λ n. q * n) e in omega (arith, f)
 
 -- a run at the top of v points, and the bits below it
 module _ (v t : ℕ) (small : v ≤ 128) (fits : t ≤ v) where
@@ -93,58 +93,58 @@ module _ (v t : ℕ) (small : v ≤ 128) (fits : t ≤ v) where
   last_one b r e = none_next v b r (ap (later v) (all_top b r e) ∙ later_top v t fits)
 
   -- a point p below the run, with a gap between them, and the points before it
-  module _ (p kept : ℕ) (gap : p + t + 2 ≤ v) (low : kept < 2 ^ p) where
-    before_p : IsSet p (members kept)
-    before_p = members_low kept p (omega arith) low
+  module _ (p lower : ℕ) (gap : p + t + 2 ≤ v) (low : lower < 2 ^ p) where
+    before_p : IsSet p (members lower)
+    before_p = members_low lower p (omega arith) low
 
-    kept_weight : weight (members kept) ≡ kept
-    kept_weight = weight_members kept (let l = pow-le-pow_right {n = 2} (omega arith) {i = p} {j = 128} (omega arith) in omega (arith, l, low))
+    lower_weight : weight (members lower) ≡ lower
+    lower_weight = weight_members lower (let l = pow-le-pow_right {n = 2} (omega arith) {i = p} {j = 128} (omega arith) in omega (arith, l, low))
 
-    old_rises : IsSet v (members kept ++ p ∷ range_with_len (v - t) t)
-    old_rises = Rises-append 0 p v (members kept) (p ∷ range_with_len (v - t) t) (omega arith) (omega arith) before_p (omega arith, omega arith, Rises-wider (p + 1) (v - t) v v (range_with_len (v - t) t) (omega arith) (omega arith) top_rises)
+    old_rises : IsSet v (members lower ++ p ∷ range_with_len (v - t) t)
+    old_rises = Rises-append 0 p v (members lower) (p ∷ range_with_len (v - t) t) (omega arith) (omega arith) before_p (omega arith, omega arith, Rises-wider (p + 1) (v - t) v v (range_with_len (v - t) t) (omega arith) (omega arith) top_rises)
 
-    new_rises : IsSet v (members kept ++ range_with_len (p + 1) (t + 1))
-    new_rises = Rises-append 0 (p + 1) v (members kept) (range_with_len (p + 1) (t + 1)) (omega arith) (omega arith) (Rises-wider 0 0 p (p + 1) (members kept) (omega arith) (omega arith) before_p) (run_rises (p + 1) (t + 1) v (omega arith))
+    new_rises : IsSet v (members lower ++ range_with_len (p + 1) (t + 1))
+    new_rises = Rises-append 0 (p + 1) v (members lower) (range_with_len (p + 1) (t + 1)) (omega arith) (omega arith) (Rises-wider 0 0 p (p + 1) (members lower) (omega arith) (omega arith) before_p) (run_rises (p + 1) (t + 1) v (omega arith))
 
-    old_is : (b : List ℕ) → IsSet v b → 2 ^ p + kept + weight (range_with_len (v - t) t) ≡ weight b → b ≡ members kept ++ p ∷ range_with_len (v - t) t
+    old_is : (b : List ℕ) → IsSet v b → 2 ^ p + lower + weight (range_with_len (v - t) t) ≡ weight b → b ≡ members lower ++ p ∷ range_with_len (v - t) t
     old_is b r e =
-        let old = members kept ++ p ∷ range_with_len (v - t) t in
-        let same : weight b ≡ weight old = omega (arith, e, weight-append (members kept) (p ∷ range_with_len (v - t) t), sum_by-cons (λ i. 2 ^ i) p (range_with_len (v - t) t), kept_weight) in
+        let old = members lower ++ p ∷ range_with_len (v - t) t in
+        let same : weight b ≡ weight old = omega (arith, e, weight-append (members lower) (p ∷ range_with_len (v - t) t), sum_by-cons (λ i. 2 ^ i) p (range_with_len (v - t) t), lower_weight) in
         sym (members_weight 0 v b small r) ∙ ap members same ∙ members_weight 0 v old small old_rises
 
-    pub new_is : members ((2 ^ (t + 1) - 1) * 2 ^ (p + 1) + kept) ≡ members kept ++ range_with_len (p + 1) (t + 1)
+    pub new_is : members ((2 ^ (t + 1) - 1) * 2 ^ (p + 1) + lower) ≡ members lower ++ range_with_len (p + 1) (t + 1)
     new_is =
-        let new = members kept ++ range_with_len (p + 1) (t + 1) in
+        let new = members lower ++ range_with_len (p + 1) (t + 1) in
         let run = weight_run (p + 1) (t + 1) in
         let product : 2 ^ (p + 1 + (t + 1)) ≡ 2 ^ (p + 1) * 2 ^ (t + 1) = pow-add 2 (p + 1) (t + 1) in
         let powers = pow_pos (t + 1) in
-        let same : (2 ^ (t + 1) - 1) * 2 ^ (p + 1) + kept ≡ weight new = run_product (2 ^ (t + 1)) (2 ^ (t + 1) - 1) (2 ^ (p + 1)) (weight (range_with_len (p + 1) (t + 1))) kept (omega (arith, powers)) (run ∙ product) ∙ sym (weight-append (members kept) (range_with_len (p + 1) (t + 1)) ∙ ap (λ n. n + weight (range_with_len (p + 1) (t + 1))) kept_weight) in
+        let same : (2 ^ (t + 1) - 1) * 2 ^ (p + 1) + lower ≡ weight new = run_product (2 ^ (t + 1)) (2 ^ (t + 1) - 1) (2 ^ (p + 1)) (weight (range_with_len (p + 1) (t + 1))) lower (omega (arith, powers)) (run ∙ product) ∙ sym (weight-append (members lower) (range_with_len (p + 1) (t + 1)) ∙ ap (λ n. n + weight (range_with_len (p + 1) (t + 1))) lower_weight) in
         ap members same ∙ members_weight 0 v new small new_rises
 
-    pub next_one : (b : List ℕ) → IsSet v b → 2 ^ p + kept + weight (range_with_len (v - t) t) ≡ weight b
-        → slice_get (subsets v (length b)) (rank v b + 1) ≡ Some (members ((2 ^ (t + 1) - 1) * 2 ^ (p + 1) + kept))
+    pub next_one : (b : List ℕ) → IsSet v b → 2 ^ p + lower + weight (range_with_len (v - t) t) ≡ weight b
+        → slice_get (subsets v (length b)) (rank v b + 1) ≡ Some (members ((2 ^ (t + 1) - 1) * 2 ^ (p + 1) + lower))
     next_one b r e =
-        let new = members kept ++ range_with_len (p + 1) (t + 1) in
+        let new = members lower ++ range_with_len (p + 1) (t + 1) in
         let is = old_is b r e in
         let long : length new ≡ length b = omega (
           arith,
           ap length is,
-          length-append (members kept) (p ∷ range_with_len (v - t) t),
-          length-append (members kept) (range_with_len (p + 1) (t + 1)),
+          length-append (members lower) (p ∷ range_with_len (v - t) t),
+          length-append (members lower) (range_with_len (p + 1) (t + 1)),
           length-range_with_len (v - t) t,
           length-range_with_len (p + 1) (t + 1),
         ) in
-        next_is v b new r new_rises long (next_later v p t (members kept) gap ∙ sym (ap (later v) is)) ∙ ap Some (sym new_is)
+        next_is v b new r new_rises long (next_later v p t (members lower) gap ∙ sym (ap (later v) is)) ∙ ap Some (sym new_is)
 
 -- the last point below the run has a gap above it
 pub has_gap : (v t p low : ℕ) → 2 ^ p ≤ low → low < 2 ^ (v - 1 - t) → p + t + 2 ≤ v
 has_gap v t p low h k = ⊎_elim (λ l. omega arith) (λ g. let up = pow-le-pow_right {n = 2} (omega arith) {i = v - 1 - t} {j = p} g in absurd (omega (arith, up, h, k))) (cases_lt p (v - 1 - t))
 
 -- the bits of the next block, as they are shifted and joined
-pub joined_bits : (v t p kept : ℕ) → v ≤ 128 → p + t + 2 ≤ v → kept < 2 ^ p → bit_or ((1 * 2 ^ (t + 1) % 2 ^ 128 - 1) * 2 ^ (p + 1) % 2 ^ 128) kept ≡ (2 ^ (t + 1) - 1) * 2 ^ (p + 1) + kept
-joined_bits v t p kept small gap low =
+pub joined_bits : (v t p lower : ℕ) → v ≤ 128 → p + t + 2 ≤ v → lower < 2 ^ p → bit_or ((1 * 2 ^ (t + 1) % 2 ^ 128 - 1) * 2 ^ (p + 1) % 2 ^ 128) lower ≡ (2 ^ (t + 1) - 1) * 2 ^ (p + 1) + lower
+joined_bits v t p lower small gap low =
     let pos = pow_pos (t + 1) in
     let up = pow-le-pow_right {n = 2} (omega arith) {i = p} {j = p + 1} (omega arith) in
-    ap (λ n. bit_or ((n - 1) * 2 ^ (p + 1) % 2 ^ 128) kept) (one_shl (t + 1) 128 (omega arith))
-    ∙ ap (λ n. bit_or n kept) (shl_whole (2 ^ (t + 1) - 1) (t + 1) (p + 1) 128 (omega (arith, pos)) (omega arith))
-    ∙ or_shifted (2 ^ (t + 1) - 1) (p + 1) kept (omega (arith, up, low))
+    ap (λ n. bit_or ((n - 1) * 2 ^ (p + 1) % 2 ^ 128) lower) (one_shl (t + 1) 128 (omega arith))
+    ∙ ap (λ n. bit_or n lower) (shl_whole (2 ^ (t + 1) - 1) (t + 1) (p + 1) 128 (omega (arith, pos)) (omega arith))
+    ∙ or_shifted (2 ^ (t + 1) - 1) (p + 1) lower (omega (arith, up, low))

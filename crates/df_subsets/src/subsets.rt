@@ -79,9 +79,9 @@ pub fn next(v: u8, block: &Block) -> Option<Block>
     }
     // the last point that can move up moves, and those of the top follow it at once
     let moved = low.ilog2() as u8;
-    let kept = low - (1 << moved);
+    let lower = low - (1 << moved);
     let run = ((1u128 << (top + 1)) - 1) << (moved + 1);
-    Some(Block::from_bits(run | kept))
+    Some(Block::from_bits(run | lower))
 }
 
 // How many points stand in an unbroken run at the top of those below v, and the bits below that run.

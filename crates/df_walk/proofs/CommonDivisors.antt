@@ -15,7 +15,7 @@ dvd_from_is_multiple m n h = dvd_of_mod-eq-zero m (eqb-true (n % m) 0 h)
 pub is_multiple_from_dvd : (m n : ℕ) → m ∣ n → is_multiple m n ≡ true
 is_multiple_from_dvd m n h = eq-eqb (n % m) 0 (mod-eq-zero_of_dvd m h)
 
--- the number, as so many times the divisor
+-- the number as a multiple of the divisor
 pub times_of : (m n : ℕ) → is_multiple m n ≡ true → (k : ℕ) × (n ≡ k * m)
 times_of m n h = (n / m, let rest = eqb-true (n % m) 0 h in omega (arith, div-add-mod' n m))
 

@@ -18,7 +18,7 @@ use Rattle.df_walk.proofs.EntryMeanings.{Says, entry_says}
 use Rattle.df_walk.proofs.DeadPaths.{over_dead, under_dead, residue_dead, counts, live_counts}
 use Rattle.df_walk.proofs.WalkOrder.{on_path, walk_is, walk-not_before}
 
--- a settled proper prefix of the joined path is one of the first part or comes later
+-- a settled proper prefix of the joined path is one of the first path or comes later
 settled_between-append : (s : System) (before p q : List Bool) → settled_between s before (p ++ q) ≡ (settled_between s before p || settled_between s (before ++ p) q)
 settled_between-append s before [] q = rw (append-nil before)
 settled_between-append s before (b ∷ p) q =

@@ -1,5 +1,6 @@
 use Rattle.std.proofs.Common.{◌+◌, drop, map, Err, refl, sym, ap, ◌∙◌}
-use Rattle.df_io.specs.Lines.{lines_of, tokens_of, part}
+use Rattle.df_io.specs.Lines.{lines_of, tokens_of}
+use Rattle.std.specs.List.{slice_range}
 use Rattle.df_lang.specs.Sources.{source, from_line}
 use Rattle.df_lang.specs.Drafts.{above}
 use Rattle.df_lang.proofs.LinesKept.{nothing_kept, step_kept}
@@ -17,7 +18,7 @@ loop-line-preserved c =
     let split = rw c.loop-line.invariant.0 at c.in-Some.ensures.line in
     let number = c.in-Some.ensures.number in
     let rest = drop c.next.new.self.at bytes in
-    let taken = line_taken (c.loop-line.lines.number + 1) (above c.loop-line.draft) (drop c.loop-line.lines.at bytes) (part bytes line.start line.end) rest split (above c.line.new.self) c.in-Ok.ensures in (
+    let taken = line_taken (c.loop-line.lines.number + 1) (above c.loop-line.draft) (drop c.loop-line.lines.at bytes) (slice_range bytes line.start line.end) rest split (above c.line.new.self) c.in-Ok.ensures in (
       c.in-Some.ensures.text ∙ c.loop-line.invariant.0,
       ap (λ n. from_line (n + 1) (above c.line.new.self) (map tokens_of (lines_of rest))) (number.1 ∙ number.0) ∙ sym taken ∙ c.loop-line.invariant.1,
       step_kept (above c.loop-line.draft) (above c.line.new.self) _ c.loop-line.invariant.2 c.in-Ok.ensures,
@@ -30,7 +31,7 @@ returns-in-Err-Fault-clause-reads c =
     let split = rw c.loop-line.invariant.0 at c.in-Some.ensures.line in
     let told = rw c.in-Err-Fault.field-0-is at c.in-Err-Fault.ensures in
     sym c.loop-line.invariant.1
-    ∙ line_refused (c.loop-line.lines.number + 1) (above c.loop-line.draft) (drop c.loop-line.lines.at bytes) (part bytes line.start line.end) (drop c.next.new.self.at bytes) split _ told
+    ∙ line_refused (c.loop-line.lines.number + 1) (above c.loop-line.draft) (drop c.loop-line.lines.at bytes) (slice_range bytes line.start line.end) (drop c.next.new.self.at bytes) split _ told
     ∙ ap (λ n. Err record { line = n; fault = c.in-Err-Fault.fault }) (sym c.in-Some.ensures.number.0)
     ∙ ap (λ f. Err record { line = line.number; fault = f }) (sym c.in-Err-Fault.fault-is)
 

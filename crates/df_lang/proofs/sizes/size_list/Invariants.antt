@@ -1,5 +1,8 @@
-use Rattle.std.proofs.Common.{◌≡◌, take}
+use Rattle.std.proofs.Common.{◌≡◌, ◌++◌, length}
 use Rattle.df_lang.proofs.sizes.size_list.Given as goal
 
-abbrev pub invariant-loop-p : goal.invariant-loop-p
-invariant-loop-p l = l.sizes.items ≡ take l.p-index l.set
+abbrev pub invariant-loop-size : goal.invariant-loop-size
+invariant-loop-size l = l.sizes.items ++ l.rest ≡ l.set
+
+abbrev pub decreases-loop-size : goal.decreases-loop-size
+decreases-loop-size l = length l.rest

@@ -7,7 +7,7 @@ use Rattle.df_group.proofs.MultipleLaws.{are_multiples}
 use Rattle.df_maps.specs.Products.{products}
 use Rattle.df_maps.proofs.ProductLaws.{products_are}
 use Rattle.df_maps.proofs.SubgroupSums.{subgroup_has}
-use Rattle.df_maps.proofs.KeptLaws.{full_from_prescribed, prescribed_from_full}
+use Rattle.df_maps.proofs.InvariantLaws.{full_from_prescribed, prescribed_from_full}
 use Rattle.df_maps.proofs.laws.prescribed_are_enough.Goals as goal
 
 pub returns : goal.returns

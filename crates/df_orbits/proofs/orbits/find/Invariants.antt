@@ -9,7 +9,7 @@ use Rattle.df_orbits.specs.MarkedPlaces.{is_marked}
 use Rattle.df_orbits.specs.Orbits.{are_in_one_orbit, orbit_size_in}
 use Rattle.df_orbits.proofs.orbits.find.Given as goal
 
--- the block is that of the place before; the places of the orbits of the blocks so far have marks, and the earliest members among these blocks are found
+-- the block is that of the place before; the places of the orbits of the blocks so far have marks, and the representatives among these blocks are found
 abbrev pub invariant-loop-place : goal.invariant-loop-place
 invariant-loop-place l = record {
   block : IsSet l.points l.block;

@@ -17,8 +17,8 @@ returns-then-low-eq0-clause-next c =
     let t = c.below_top-top.result.0 in
     sym (last_one v t c.requires.small c.below_top-top.ensures.run c.args.block.now c.requires.within (omega (arith, c.below_top-top.ensures.split, c.if-low-eq0.true, c.bits.ensures)))
 
-pub overflow_sub-kept : goal.overflow_sub-kept
-overflow_sub-kept c = omega (arith, one_shl c.ilog2-moved.result 128 c.ilog2-moved.ensures.bound, c.ilog2-moved.ensures.power_le)
+pub overflow_sub-lower : goal.overflow_sub-lower
+overflow_sub-lower c = omega (arith, one_shl c.ilog2-moved.result 128 c.ilog2-moved.ensures.bound, c.ilog2-moved.ensures.power_le)
 
 pub overflow_shl-run-2 : goal.overflow_shl-run-2
 overflow_shl-run-2 c =
@@ -34,10 +34,10 @@ returns c =
     let p = c.ilog2-moved.result in
     let gap = has_gap v t p low c.ilog2-moved.ensures.power_le c.below_top-top.ensures.gap in
     let one = one_shl p 128 c.ilog2-moved.ensures.bound in
-    let kept = low - 1 * 2 ^ p % 2 ^ 128 in
-    let small : kept < 2 ^ p = omega (arith, one, c.ilog2-moved.ensures.power_le, c.ilog2-moved.ensures.next_power_gt) in
-    let whole : 2 ^ p + kept + weight (range_with_len (v - t) t) ≡ weight b = omega (arith, one, c.ilog2-moved.ensures.power_le, c.below_top-top.ensures.split, c.bits.ensures) in
+    let lower = low - 1 * 2 ^ p % 2 ^ 128 in
+    let small : lower < 2 ^ p = omega (arith, one, c.ilog2-moved.ensures.power_le, c.ilog2-moved.ensures.next_power_gt) in
+    let whole : 2 ^ p + lower + weight (range_with_len (v - t) t) ≡ weight b = omega (arith, one, c.ilog2-moved.ensures.power_le, c.below_top-top.ensures.split, c.bits.ensures) in
     let is : slice_get (subsets v (length b)) (rank v b + 1) ≡ Some c.from_bits.result =
-    next_one v t c.requires.small c.below_top-top.ensures.run p kept gap small b c.requires.within whole
-    ∙ ap (λ n. Some (members n)) (sym (joined_bits v t p kept c.requires.small gap small)) ∙ ap Some (sym c.from_bits.ensures) in
+    next_one v t c.requires.small c.below_top-top.ensures.run p lower gap small b c.requires.within whole
+    ∙ ap (λ n. Some (members n)) (sym (joined_bits v t p lower c.requires.small gap small)) ∙ ap Some (sym c.from_bits.ensures) in
     record { next = sym is; block = inside_at v (length b) (rank v b + 1) c.from_bits.result is }

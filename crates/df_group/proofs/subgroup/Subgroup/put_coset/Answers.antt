@@ -13,7 +13,7 @@ loop-s-init c =
     let set = c.args.subgroup.now in
     let below = subgroup_below fs set c.requires.subgroup in
     record {
-      kept = c.requires.kept;
+      stored = c.requires.stored;
       below = λ s h. below s (sym (ap (λ l. has_member l s) c.subgroup.view_is) ∙ h);
       members = λ x.
           ap (λ v. has_member c.args.self.now x || v)
@@ -32,7 +32,7 @@ loop-s-preserved c =
     let fs = c.args.shape.now in
     let s = c.in-Some.s in
     record {
-      kept = c.put.ensures.kept;
+      stored = c.put.ensures.stored;
       below = λ x h. c.loop-s.invariant.below x (ap (λ l. has_member l x) c.in-Some.ensures.first.0 ∙ or_right (eqb s x) (has_member c.pop_first.new.self x) h);
       members = λ x.
           coset_step c.loop-s.self c.put.new.self c.loop-s.rest c.pop_first.new.self ((group_of fs).plus c.args.shift) s x

@@ -23,9 +23,9 @@ stopped v i x xs b l at is bad =
     by (inr g) = and_left (ltb x v) (not (has_member (take i xs) x)) (le-ltb x v g)
 
 -- a point that is below v and new
-kept : (v i x : ℕ) (xs b : List ℕ) → i < length xs → x ≡ get_or xs i x → b ≡ set_of v (take i xs) → are_apart v (take i xs) ≡ true → x < v → has_member b x ≡ false
+still_apart : (v i x : ℕ) (xs b : List ℕ) → i < length xs → x ≡ get_or xs i x → b ≡ set_of v (take i xs) → are_apart v (take i xs) ≡ true → x < v → has_member b x ≡ false
     → (with_member x b ≡ set_of v (take (i + 1) xs)) × (are_apart v (take (i + 1) xs) ≡ true)
-kept v i x xs b l at is apart h new =
+still_apart v i x xs b l at is apart h new =
     let next = take_more xs i x l ∙ ap (λ y. take i xs ++ y ∷ []) (sym at) in
     let absent = sym (has_filter (has_member (take i xs)) v x h) ∙ sym (ap (λ l. has_member l x) is) ∙ new in (
       ap (with_member x) is ∙ set_more v (take i xs) x h ∙ sym (ap (set_of v) next),
@@ -62,7 +62,7 @@ loop-p-preserved c =
     let x = c.p.inside.0 in
     let b = c.loop-p.block in
     let at = subst (λ y. y ≡ get_or xs i y) (sym c.p.view_is) c.p-item.is in
-    let r = kept 128 i x xs b c.loop-p-test.true at c.loop-p.invariant.0 c.loop-p.invariant.1 c.if-p-ge128.false (sym c.has.ensures ∙ c.if-has.false) in
+    let r = still_apart 128 i x xs b c.loop-p-test.true at c.loop-p.invariant.0 c.loop-p.invariant.1 c.if-p-ge128.false (sym c.has.ensures ∙ c.if-has.false) in
     (c.insert.ensures.list ∙ r.0, r.1)
 
 pub returns-clause-size : goal.returns-clause-size

@@ -1,10 +1,10 @@
--- A part of a text without its first bytes.
+-- A slice of a text without its first bytes.
 use Rattle.std.proofs.Common.{◌≡◌, ℕ, ◌+◌, ◌-◌, ◌≤◌, List, length, take, drop, refl, sym, ap, ◌∙◌, arith, length-take}
 use Rattle.std.proofs.lemmas.List.{drop-take, drop-drop}
-use Rattle.df_io.specs.Lines.{part}
+use Rattle.std.specs.List.{slice_range}
 
-pub part_rest : (xs : List ℕ) (start end count : ℕ) → count ≤ length (part xs start end) → part xs (start + count) end ≡ drop count (part xs start end)
-part_rest xs start end count fits =
+pub slice_rest : (xs : List ℕ) (start end count : ℕ) → count ≤ length (slice_range xs start end) → slice_range xs (start + count) end ≡ drop count (slice_range xs start end)
+slice_rest xs start end count fits =
     let most = length-take (end - start) (drop start xs) in
     let size : end - start ≡ count + (end - (start + count)) = omega (arith, fits, most) in
     ap (λ l. take (end - (start + count)) l) (sym (drop-drop count start xs))

@@ -4,7 +4,7 @@ use Rattle.df_group.specs.Elements.{order_of}
 use Rattle.df_lang.specs.declared.pieces.Member.{Member}
 use Rattle.df_lang.specs.Problems.{point_count}
 use Rattle.df_family.proofs.RemainderLaws.{set_below}
-use Rattle.df_family.proofs.problem_parts.member_at.Goals as goal
+use Rattle.df_family.proofs.problem_pieces.member_at.Goals as goal
 
 pub returns-then-place-len-clause-points : goal.returns-then-place-len-clause-points
 returns-then-place-len-clause-points c =
