@@ -1,4 +1,4 @@
-use Rattle.std.proofs.Common.{◌≡◌, [], Some, IsSome, refl, sym, ap, subst, inl, ◌∙◌}
+use Rattle.std.proofs.Common.{[], IsSome, refl, sym, ap, subst, inl, ◌∙◌}
 use Rattle.df_walk.specs.declared.Rules.TheVariants.{Divisor}
 use Rattle.df_runs.specs.Runs.{run_of}
 use Rattle.df_kramer_mesner.specs.OrbitSystems.{orbit_system}
