@@ -14,7 +14,7 @@ use Rattle.df_walk.specs.Systems.{System}
 use Rattle.df_walk.specs.Solutions.{yes_vector}
 use Rattle.df_walk.specs.Walks.{Step, decided, solution_of, solutions_in, node_of, nodes_in}
 use Rattle.df_walk.specs.Paths.{is_node}
-use Rattle.df_runs.specs.Runs.{Run, run_over, run_of, then_run, IsCounted}
+use Rattle.df_runs.specs.Runs.{run_over, run_of, then_run, IsCounted}
 use Rattle.df_runs.proofs.StepLists.{all_front}
 use Rattle.df_runs.proofs.BudgetRuns.{run_after}
 use Rattle.df_runs.proofs.WalkRuns.{steps-counted}

@@ -1,5 +1,5 @@
 -- The pieces of which the texts of a run are put together.
-use Rattle.std.proofs.Common.{◌≡◌, ◌++◌, ◌∷◌, [], ℕ, zero, suc, ◌+◌, ◌<◌, ◌≤◌, Bool, true, false, eqb, List, length, map, drop, get_or, decimal, Option, None, Some, refl, sym, ap, ap₂, ◌∙◌, ◌^◌, subst, arith, append_assoc, append-nil, length-append}
+use Rattle.std.proofs.Common.{◌≡◌, ◌++◌, ◌∷◌, [], ℕ, ◌+◌, ◌<◌, ◌≤◌, Bool, true, false, eqb, List, length, map, drop, get_or, decimal, Option, None, Some, refl, sym, ap, ◌∙◌, ◌^◌, arith, append_assoc, append-nil, length-append}
 use Rattle.std.specs.Prelude.{IsSome, option_map}
 use Rattle.std.proofs.lemmas.List.{drop_more}
 use Rattle.std.proofs.lemmas.Bool.{ne_eqb}

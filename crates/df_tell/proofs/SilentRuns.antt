@@ -1,5 +1,5 @@
 -- What is printed of steps without a log: the designs of their solutions.
-use Rattle.std.proofs.Common.{◌≡◌, ◌++◌, ◌∷◌, [], ℕ, Bool, false, List, map, Option, None, Some, refl, ap}
+use Rattle.std.proofs.Common.{◌≡◌, ◌++◌, ◌∷◌, [], Bool, false, List, map, Option, None, Some, refl, ap}
 use Rattle.std.specs.List.{flat_map}
 use Rattle.df_walk.specs.Walks.{Step, solution_of, solutions_in}
 use Rattle.df_lang.specs.Problems.{Stated}

@@ -1,4 +1,4 @@
--- The text of a run, a dossier: head, source lines, where it began, what it passed, and how it ended.
+-- The text of a run, a dossier: head, source lines, where it began, what it passed, how it ended.
 use Rattle.std.specs.Prelude.{◌≡◌, ℕ, ◌+◌, Bool, true, false, List, [], ◌∷◌, ◌++◌, codes, length, if◌then◌else◌, Option, Some, None, Result, Ok, Err, IsSome}
 use Rattle.std.specs.List.{flat_map}
 use Rattle.df_io.specs.Joined.{spaced}
@@ -43,7 +43,8 @@ from_text p = codes "from" ++ path_end p
 -- the blocks of a design line from a place on
 abbrev pub block_pieces : List ℕ → ℕ → List (List ℕ) → List ℕ
 block_pieces fs place [] = []
-block_pieces fs place (block ∷ blocks) = block_piece fs block place ++ block_pieces fs (place + 1) blocks
+block_pieces fs place (block ∷ blocks) =
+    block_piece fs block place ++ block_pieces fs (place + 1) blocks
 
 -- the line of a design: its base blocks
 unfoldable pub design_line : Stated → List (List ℕ) → List ℕ
@@ -72,20 +73,23 @@ entry_line shown e = if shown.log then entry_text e ++ 10 ∷ [] else []
 
 -- what is printed of a step: its entry, and the design of its solution
 abbrev pub step_lines : Shown → Stated → Step → List ℕ
-step_lines shown s step = entry_line shown step.1 ++ solution_lines shown s (solution_of (orbit_system s) step)
+step_lines shown s step =
+    entry_line shown step.1 ++ solution_lines shown s (solution_of (orbit_system s) step)
 
--- how many designs were printed and how many nodes visited, and the path where the run goes on, if it was spent
+-- how many designs were printed and how many nodes visited, and the next path, if it was spent
 abbrev pub end_text : ℕ → ℕ → Option (List Bool) → List ℕ
 end_text designs nodes None = spaced (end_tokens true designs nodes) ++ 10 ∷ []
 end_text designs nodes (Some q) = spaced (end_tokens false designs nodes) ++ path_end q
 
 abbrev pub end_line : Stated → Run → List ℕ
-end_line s run = end_text (length (solutions_in (orbit_system s) run.taken)) (length (nodes_in run.taken)) run.stop
+end_line s run =
+    end_text (length (solutions_in (orbit_system s) run.taken)) (length (nodes_in run.taken)) run.stop
 
 -- the run by these rules from a path
 abbrev pub run_text : Rules → Stated → Shown → List Bool → Run → List ℕ
 run_text rules s shown p run =
-    head_text rules ++ (source_text s ++ (from_text p ++ (flat_map (step_lines shown s) run.taken ++ end_line s run)))
+    head_text rules
+    ++ (source_text s ++ (from_text p ++ (flat_map (step_lines shown s) run.taken ++ end_line s run)))
 
 -- how a run with this stop ended
 abbrev pub run_end : Option (List Bool) → RunEnd

@@ -1,6 +1,8 @@
 //! The texts that the program prints, each written to a sink.
 //! A text has a module with its writer, and a module of specs/ of the same name with the text as a list of bytes.
 //! Each writer's one clause is `Writes`: all of the text was written, or a proper prefix of it, and the sink failed.
+//! `write_run` says besides how the run ended.
+//! Laws for the rooms above: proofs/SilentRuns.
 #![tactic(auto)]
 
 mod canonical;

@@ -1,7 +1,7 @@
 // The text of a run: a dossier, whose designs are printed as the search comes to them.
-// A run without a log asks for one design after another, so that the search may leap over the entries between; a run with
-// a log asks for each entry. Both write what is defined of the run's steps. A step is told by what it does to the run that
-// remains (specs/RunSteps), so one loop goes through both.
+// A run without a log asks for one design after another, so that the search may leap over the
+// entries between; a run with a log asks for each entry. Both write what is defined of the run's
+// steps: one loop goes through both, since a step is told by what was passed (specs/RunSteps).
 ghost use Rattle.std.specs.Prelude.{◌≡◌, ◌≤◌, ◌<◌, ◌+◌, ◌^◌, ◌++◌, ◌∷◌, [], ℕ, List, Bool, true, false, codes, decimal, length, Some, IfOk, IsSome, IsNone};
 ghost use Rattle.std.specs.List.{flat_map};
 ghost use Rattle.arrayvec.specs.ArrayVec.{array_vec_len};
@@ -66,8 +66,9 @@ struct Ran {
     nodes: u64,
 }
 
-/// Writes the text of the run of this budget from where the search stands, and says how the run ended.
-/// `designs` are those of the problem and may be asked for their place; they go by the rules. It takes no memory.
+/// Writes the text of the run of this budget from where the search stands, and says how it ended.
+/// `designs` are those of the problem and may be asked for their place; they go by the rules.
+/// It takes no memory.
 pub fn write_run<K: Sink, L: Ledger>(
     problem: &Problem,
     designs: &mut Designs<'_>,
@@ -80,9 +81,10 @@ pub fn write_run<K: Sink, L: Ledger>(
     requires { MayRun rules problem.now designs.old }
     ensures written { (p : List Bool) → designs.old.search.place ≡ Some p
         → Writes K.written K.faults out.old out.new
-        (run_text rules problem.now shown p (run_of rules (orbit_system problem.now) p budget)) (as_written result) }
-    ensures end { (p : List Bool) → designs.old.search.place ≡ Some p
-        → IfOk result (λ end. end ≡ run_end (run_of rules (orbit_system problem.now) p budget).stop) }
+        (run_text rules problem.now shown p (run_of rules (orbit_system problem.now) p budget))
+        (as_written result) }
+    ensures end { (p : List Bool) → designs.old.search.place ≡ Some p → IfOk result (λ end.
+        end ≡ run_end (run_of rules (orbit_system problem.now) p budget).stop) }
 {
     let mut line = LineBuf::new();
     write_start(problem, designs.place(), rules, &mut line, out)?;
@@ -101,7 +103,9 @@ fn write_start<K: Sink>(
     out: &mut K,
 ) -> Result<(), WriteFault>
     requires { place.length ≡ length place.decisions.now }
-    ensures { Writes K.written K.faults out.old out.new (head_text rules ++ (source_text problem.now ++ from_text place.entry.decisions.now)) result }
+    ensures { Writes K.written K.faults out.old out.new
+        (head_text rules
+        ++ (source_text problem.now ++ from_text place.entry.decisions.now)) result }
 {
     write_all(out, head(rules))?;
     write_source(problem, line, out)?;
@@ -164,7 +168,8 @@ fn write_columns<K: Sink>(
     out: &mut K,
 ) -> Result<(), WriteFault>
     requires { columns ≡ length decisions.now }
-    ensures { Writes K.written K.faults out.old out.new (columns_text (chosen_columns decisions.now)) result }
+    ensures { Writes K.written K.faults out.old out.new
+        (columns_text (chosen_columns decisions.now)) result }
 {
     for column in 0..columns {
         write_column(decisions[column as usize], column, line, out)?;
@@ -211,8 +216,10 @@ fn write_steps<K: Sink, L: Ledger>(
     requires search { IsOf problem.now designs.old }
     requires counted { AreCounted designs.old.search }
     ensures written { Writes K.written K.faults out.old out.new
-        (flat_map (step_lines shown problem.now) (run_left designs.old.search budget).taken) (as_written result) }
-    ensures ran { IfOk result (IsRan problem.now (run_left designs.old.search budget) designs.new.search) }
+        (flat_map (step_lines shown problem.now) (run_left designs.old.search budget).taken)
+        (as_written result) }
+    ensures ran { IfOk result
+        (IsRan problem.now (run_left designs.old.search budget) designs.new.search) }
 {
     let mut counts = Counts {
         designs: 0,
@@ -230,8 +237,9 @@ fn write_steps<K: Sink, L: Ledger>(
     }
 }
 
-// Passes the next step, or without a log all steps up to the next design, and writes what is printed of them; or says how
-// the run ended, where the budget allows no step more that has anything printed.
+// Passes the next step, or without a log all steps up to the next design, and writes what is
+// printed of them; or says how the run ended, where the budget allows no step more of which
+// anything is printed.
 fn write_step<K: Sink, L: Ledger>(
     problem: &Problem,
     designs: &mut Designs<'_>,
@@ -243,8 +251,10 @@ fn write_step<K: Sink, L: Ledger>(
 ) -> Result<Option<RunEnd>, WriteFault>
     requires search { IsOf problem.now designs.old }
     requires few { counts.old.designs + counts.old.left < 2 ^ 64 }
-    ensures tells { Tells K.written K.faults shown problem.now designs.old designs.new counts.old counts.new out.old out.new (as_written result) }
-    ensures ends { IfOk result (EndsOrGoesOn designs.old.search designs.new.search counts.new.left) }
+    ensures tells { Tells K.written K.faults shown problem.now designs.old designs.new
+        counts.old counts.new out.old out.new (as_written result) }
+    ensures ends { IfOk result
+        (EndsOrGoesOn designs.old.search designs.new.search counts.new.left) }
 {
     if shown.log {
         write_entry_step(problem, designs, counts, shown, line, out, steps)
@@ -267,8 +277,10 @@ fn write_entry_step<K: Sink, L: Ledger>(
     requires search { IsOf problem.now designs.old }
     requires few { counts.old.designs + counts.old.left < 2 ^ 64 }
     requires log { shown.log ≡ true }
-    ensures tells { Tells K.written K.faults shown problem.now designs.old designs.new counts.old counts.new out.old out.new (as_written result) }
-    ensures ends { IfOk result (EndsOrGoesOn designs.old.search designs.new.search counts.new.left) }
+    ensures tells { Tells K.written K.faults shown problem.now designs.old designs.new
+        counts.old counts.new out.old out.new (as_written result) }
+    ensures ends { IfOk result
+        (EndsOrGoesOn designs.old.search designs.new.search counts.new.left) }
 {
     match designs.advance(&mut counts.left, steps) {
         Event::Branch(column) => goes_on(write_entry(Entry::Branch(column), line, out)),
@@ -301,8 +313,10 @@ fn write_design_step<K: Sink, L: Ledger>(
     requires search { IsOf problem.now designs.old }
     requires few { counts.old.designs + counts.old.left < 2 ^ 64 }
     requires silent { shown.log ≡ false }
-    ensures tells { Tells K.written K.faults shown problem.now designs.old designs.new counts.old counts.new out.old out.new (as_written result) }
-    ensures ends { IfOk result (EndsOrGoesOn designs.old.search designs.new.search counts.new.left) }
+    ensures tells { Tells K.written K.faults shown problem.now designs.old designs.new
+        counts.old counts.new out.old out.new (as_written result) }
+    ensures ends { IfOk result
+        (EndsOrGoesOn designs.old.search designs.new.search counts.new.left) }
 {
     match designs.next(&mut counts.left, steps) {
         Turn::Design => {
@@ -347,7 +361,8 @@ fn write_settled<K: Sink>(
     requires problem { designs.now.problem ≡ problem.now }
     requires chosen { IsSome designs.now.search.chosen }
     ensures { Writes K.written K.faults out.old out.new
-        ((entry_text Settled ++ 10 ∷ []) ++ solution_lines shown problem.now designs.now.search.chosen) result }
+        ((entry_text Settled ++ 10 ∷ [])
+        ++ solution_lines shown problem.now designs.now.search.chosen) result }
 {
     write_entry(Entry::Settled, line, out)?;
     write_design(problem, designs, shown, line, out)
@@ -363,7 +378,8 @@ fn write_design<K: Sink>(
 ) -> Result<(), WriteFault>
     requires problem { designs.now.problem ≡ problem.now }
     requires chosen { IsSome designs.now.search.chosen }
-    ensures { Writes K.written K.faults out.old out.new (solution_lines shown problem.now designs.now.search.chosen) result }
+    ensures { Writes K.written K.faults out.old out.new
+        (solution_lines shown problem.now designs.now.search.chosen) result }
 {
     subsets_are_all();
     candidates_are_all();
@@ -383,7 +399,8 @@ fn write_base<K: Sink>(
     line: &mut LineBuf,
     out: &mut K,
 ) -> Result<(), WriteFault>
-    ensures { Writes K.written K.faults out.old out.new (design_line problem.now blocks.entry) result }
+    ensures { Writes K.written K.faults out.old out.new
+        (design_line problem.now blocks.entry) result }
 {
     fill_design_start(line);
     write_all(out, line.as_slice())?;
@@ -399,14 +416,15 @@ fn fill_design_start(line: &mut LineBuf)
     put_design_start(line);
 }
 
-// Writes the base blocks of the line of a design, the first one at place 0, and the others behind it.
+// Writes the base blocks of the line of a design, the first one at place 0.
 fn write_pieces<K: Sink>(
     problem: &Problem,
     blocks: Reps<'_>,
     line: &mut LineBuf,
     out: &mut K,
 ) -> Result<(), WriteFault>
-    ensures { Writes K.written K.faults out.old out.new (block_pieces problem.now.group 0 blocks.entry) result }
+    ensures { Writes K.written K.faults out.old out.new
+        (block_pieces problem.now.group 0 blocks.entry) result }
 {
     let mut rest = blocks;
     let mut place = 0;
@@ -436,7 +454,8 @@ fn write_comments<K: Sink>(
     out: &mut K,
 ) -> Result<(), WriteFault>
     requires { (block : List ℕ) → In blocks block → length block ≤ 16 }
-    ensures { Writes K.written K.faults out.old out.new (flat_map (block_comment problem.now) blocks.entry) result }
+    ensures { Writes K.written K.faults out.old out.new
+        (flat_map (block_comment problem.now) blocks.entry) result }
 {
     let mut rest = blocks;
     while let Some(block) = rest.next() {
@@ -467,7 +486,8 @@ fn write_end<K: Sink>(
     out: &mut K,
 ) -> Result<(), WriteFault>
     requires { ran.end ≡ Spent → IsSome designs.now.search.place }
-    ensures { Writes K.written K.faults out.old out.new (end_text ran.designs ran.nodes (stop_at ran.end designs.now.search)) result }
+    ensures { Writes K.written K.faults out.old out.new
+        (end_text ran.designs ran.nodes (stop_at ran.end designs.now.search)) result }
 {
     match ran.end {
         RunEnd::Finished => {

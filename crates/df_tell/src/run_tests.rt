@@ -1,10 +1,12 @@
 // Texts of runs that were worked out by hand, written to a sink in memory.
+ghost use Rattle.std.specs.Prelude.{◌≡◌, ◌<◌};
+
 use crate::{RunEnd, Shown, write_run};
 use arrayvec::ArrayVec;
 use df_design::{Designs, Rules};
 use df_io::MemSink;
 use df_lang::parse;
-use df_matrix::build;
+use df_matrix::{OrbitMatrix, build};
 use df_steps::Steps;
 use std::alloc::Global;
 use std::marker::Brand;
@@ -12,7 +14,7 @@ use std::process::Abort;
 use std::sync::ledger::{Blank, Ledger};
 
 // The plane of 7 points with its group of translations.
-const PLANE: &str = "group 7\nk 3\nlambda 1\n";
+const PLANE: &[u8] = b"group 7\nk 3\nlambda 1\n";
 
 // The head and the source lines of its dossiers.
 const HEAD: &str = "dossier 2
@@ -30,40 +32,51 @@ from 0
 fn text_of<L: Ledger>(
     rt: &impl Abort,
     alloc: Global,
-    source: &str,
+    matrix: &OrbitMatrix,
     budget: u64,
     shown: Shown,
     blank: Blank,
-) -> (Vec<u8>, RunEnd)
+) -> Option<(Vec<u8>, RunEnd)>
     requires name { blank.name ≡ L.name }
     requires parts { blank.parts ≡ L.parts }
     requires some { 0 < blank.parts }
 {
-    let bytes = source.as_bytes();
-    assert!(rt; bytes.len() < 1000);
-    let problem = parse(alloc, bytes).expect(rt, "a problem");
-    let matrix = build(alloc, &problem).expect(rt, "a matrix");
     let mut steps = Steps::<L>::new(blank);
     let mut out = MemSink::new(alloc, 2000, ArrayVec::new()).expect(rt, "memory");
-    let mut designs = Designs::start(alloc, &matrix, Rules::Divisor, &mut steps).expect(
-        rt, "memory",
-    );
-    let end = write_run(
-        matrix.problem(),
-        &mut designs,
-        Rules::Divisor,
-        budget,
-        shown,
-        &mut out,
-        &mut steps,
-    )
-    .expect(rt, "room");
-    (out.bytes, end)
+    match Designs::start(alloc, matrix, Rules::Divisor, &mut steps) {
+        Ok(mut designs) => {
+            let problem = matrix.problem();
+            let rules = Rules::Divisor;
+            let end = write_run(
+                problem,
+                &mut designs,
+                rules,
+                budget,
+                shown,
+                &mut out,
+                &mut steps,
+            );
+            Some((out.bytes, end.ok()?))
+        }
+        Err(_) => None,
+    }
+}
+
+// The same of the planes of 7 points.
+fn plane_text(
+    rt: &impl Abort,
+    alloc: Global,
+    budget: u64,
+    shown: Shown,
+) -> Option<(Vec<u8>, RunEnd)> {
+    let problem = parse(alloc, PLANE).expect(rt, "a problem");
+    let matrix = build(alloc, &problem).expect(rt, "a matrix");
+    text_of::<Brand>(rt, alloc, &matrix, budget, shown, Blank::new(1))
 }
 
 // The run ends so, and its text is the head and these lines.
 fn assert_run(rt: &impl Abort, alloc: Global, budget: u64, shown: Shown, end: RunEnd, lines: &str) {
-    let (text, ended) = text_of::<Brand>(rt, alloc, PLANE, budget, shown, Blank::new(1));
+    let (text, ended) = plane_text(rt, alloc, budget, shown).expect(rt, "a text");
     assert_eq!(rt; ended, end);
     let (head, rest) = text.split_at_checked(HEAD.len()).expect(rt, "a head");
     assert_eq!(rt; head, HEAD.as_bytes());

@@ -1,4 +1,4 @@
-use Rattle.std.proofs.Common.{◌≡◌, ◌<◌, length, get_or, drop, ap, subst, sym, ◌∙◌, arith, ⊎_elim}
+use Rattle.std.proofs.Common.{◌≡◌, ◌<◌, length, get_or, drop, ap, ◌∙◌, arith}
 use Rattle.df_kramer_mesner.specs.OrbitSystems.{entries_of, orbit_at}
 use Rattle.df_tell.specs.Matrix.{entry_text}
 use Rattle.df_tell.specs.Cells.{entry_ahead}

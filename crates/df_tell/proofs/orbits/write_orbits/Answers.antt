@@ -1,4 +1,4 @@
-use Rattle.std.proofs.Common.{codes, ap, ap₂, ◌∙◌}
+use Rattle.std.proofs.Common.{codes, ap₂}
 use Rattle.df_tell.specs.Orbits.{orbit_lines}
 use Rattle.df_io.proofs.Writing.{writes_as, writes_then, writes_stopped}
 use Rattle.df_tell.proofs.orbits.write_orbits.Goals as goal

@@ -1,4 +1,4 @@
-use Rattle.std.proofs.Common.{◌≡◌, ◌++◌, ◌<◌, Some, [], length, map, drop, get_or, ◌+◌, false, refl, ap, sym, ◌∙◌, arith, append_assoc, append-nil}
+use Rattle.std.proofs.Common.{◌++◌, ◌<◌, Some, [], length, map, drop, get_or, ◌+◌, false, refl, ap, sym, ◌∙◌, arith, append_assoc, append-nil}
 use Rattle.std.proofs.lemmas.List.{drop_all}
 use Rattle.df_io.proofs.Writing.{writes_nothing, writes_as, writes_then, writes_stopped_then}
 use Rattle.df_walk.specs.Solutions.{yes_columns_from}

@@ -1,4 +1,4 @@
-use Rattle.std.proofs.Common.{◌≡◌, List, ℕ, subst, ap, ◌∙◌, append-nil}
+use Rattle.std.proofs.Common.{subst}
 use Rattle.df_io.proofs.Writing.{writes_as, writes_then, writes_stopped}
 use Rattle.df_lists.specs.Membership.{In}
 use Rattle.df_tell.proofs.RunTexts.{IsFound, found, printed, printed_base, printed_all, same_blocks, design_short}

@@ -1,4 +1,4 @@
-use Rattle.std.proofs.Common.{◌≡◌, ◌++◌, ◌∷◌, [], refl, ap, sym, ◌∙◌, append_assoc, append-nil}
+use Rattle.std.proofs.Common.{◌++◌, [], refl, ap, sym, ◌∙◌, append_assoc}
 use Rattle.df_io.proofs.Writing.{writes_nothing, writes_as, writes_then, writes_stopped_then}
 use Rattle.df_dossier.specs.Designs.{block_piece}
 use Rattle.df_tell.specs.Run.{block_pieces}

@@ -1,5 +1,5 @@
 use Rattle.df_tell.proofs.RunSteps.{stands_counted, err_written}
-use Rattle.df_tell.proofs.RunStarts.{writes_err, start_stopped, steps_stopped, all_written, run_ended}
+use Rattle.df_tell.proofs.RunStarts.{writes_err, start_stopped, steps_stopped, all_written}
 use Rattle.df_tell.proofs.run.write_run.Goals as goal
 
 pub returns-in_err-write_start-clause-written : goal.returns-in_err-write_start-clause-written
