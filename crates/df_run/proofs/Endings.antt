@@ -1,8 +1,15 @@
 -- How a run ends by what its writer did.
-use Rattle.std.proofs.Common.{◌≡◌, ℕ, List, Ok, Err, Result, is_ok, cond, inl, inr}
-use Rattle.std.specs.declared.option.Option.{Option}
+use Rattle.std.proofs.Common.{◌≡◌, ℕ, Bool, List, [], Option, Some, None, Ok, Err, Result, IfOk, is_ok, cond, inl, inr, refl, ap, ◌∙◌}
 use Rattle.df_io.specs.Writing.{Writes}
 use Rattle.df_io.specs.declared.bytes.WriteFault.{WriteFault}
+use Rattle.df_walk.specs.declared.Rules.TheVariants.{Divisor}
+use Rattle.df_runs.specs.Runs.{Run}
+use Rattle.df_lang.specs.Problems.{Stated}
+use Rattle.df_tell.specs.Run.{run_text, run_end, as_written}
+use Rattle.df_tell.specs.declared.run.RunEnd.{RunEnd}
+use Rattle.df_words.specs.declared.command.Options.{Options}
+use Rattle.df_run.specs.Answers.{shown_by, stop_status, run_answer}
+use Rattle.df_run.specs.Statuses.{ran_status}
 use Rattle.df_run.specs.Streams.{outgoing}
 use Rattle.df_run.specs.Endings.{Replies}
 use Rattle.df_run.specs.declared.statuses.Status.{Status}
@@ -13,3 +20,14 @@ pub replied : {K : Type 0} {w : K → Option (List ℕ)} {f : K → ℕ} {a b : 
     → Writes w f a b text r → Replies record { status = status; text = text } (outgoing w f a b) result
 replied {r = Ok x} status is written = inl (is, written.all)
 replied {r = Err e} status is written = inr (is, written.fault, written.prefix)
+
+-- the status of a run's end is that of its stop
+stop_is : (stop : Option (List Bool)) → ran_status (Ok (run_end stop)) ≡ stop_status stop
+stop_is None = refl
+stop_is (Some q) = refl
+
+-- the text of a run was written, or the sink failed
+pub run_replied : {K : Type 0} {w : K → Option (List ℕ)} {f : K → ℕ} {a b : K} (s : Stated) (options : Options) (run : Run) (ran : Result RunEnd WriteFault) (result : Status) → result ≡ ran_status ran
+    → Writes w f a b (run_text Divisor s (shown_by options) [] run) (as_written ran) → IfOk ran (λ end. end ≡ run_end run.stop) → Replies (run_answer s options run) (outgoing w f a b) result
+run_replied s options run (Ok end) result status written is = inl (status ∙ ap (λ e. ran_status (Ok e)) is ∙ stop_is run.stop, written.all)
+run_replied s options run (Err e) result status written is = inr (status, written.fault, written.prefix)

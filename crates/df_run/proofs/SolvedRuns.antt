@@ -1,10 +1,10 @@
 -- What the run of a search from the empty path says of the designs that a problem asks for.
-use Rattle.std.proofs.Common.{◌≡◌, ℕ, ◌+◌, ◌≤◌, ◌<◌, Bool, true, false, List, [], ◌∷◌, ◌++◌, length, map, Option, Some, None, refl, sym, ap, ◌∙◌, subst, arith}
+use Rattle.std.proofs.Common.{◌≡◌, ℕ, ◌+◌, ◌≤◌, ◌<◌, Bool, false, List, [], ◌∷◌, ◌++◌, length, map, Option, Some, None, refl, sym, ap, ◌∙◌, subst, arith}
 use Rattle.std.specs.Prelude.{filter}
 use Rattle.std.specs.List.{flat_map}
 use Rattle.std.proofs.lemmas.List.{append-nil, map-append, length-map}
 use Rattle.df_walk.specs.declared.Rules.TheVariants.{Divisor}
-use Rattle.df_walk.specs.Systems.{System, IsSystem}
+use Rattle.df_walk.specs.Systems.{System}
 use Rattle.df_walk.specs.Solutions.{solutions}
 use Rattle.df_walk.specs.Walks.{solutions_in, nodes_in}
 use Rattle.df_walk.specs.Paths.{not_before, rest, load, IsNode}
@@ -14,10 +14,10 @@ use Rattle.df_lang.specs.Problems.{Stated}
 use Rattle.df_kramer_mesner.specs.OrbitSystems.{orbit_system}
 use Rattle.df_correspondence.specs.Designs.{asked, design}
 use Rattle.df_design.specs.RemainingDesigns.{designs_from}
-use Rattle.df_tell.specs.Run.{head_text, source_text, from_text, step_lines, design_lines, end_text, run_text}
+use Rattle.df_tell.specs.Run.{head_text, source_text, from_text, design_lines, end_text, run_text}
 use Rattle.df_tell.specs.declared.run.Shown.{Shown}
 use Rattle.df_tell.proofs.SilentRuns.{silent_lines}
-use Rattle.df_run.specs.Headline.{finished_run, spent_run, designs_in, all_nodes, designs_text}
+use Rattle.df_run.specs.Headline.{designs_in, all_nodes, designs_text}
 
 -- nothing is before the empty path
 rest_all : (S : System) → rest S [] ≡ solutions S

@@ -5,6 +5,7 @@ ghost use Rattle.df_runs.specs.Runs.{run_of};
 ghost use Rattle.df_kramer_mesner.specs.OrbitSystems.{orbit_system};
 ghost use Rattle.df_run.specs.Answers.{answer_on, run_answer};
 ghost use Rattle.df_run.specs.Endings.{RepliesOr};
+ghost use Rattle.df_run.specs.Statuses.{ran_status};
 ghost use Rattle.df_run.specs.Streams.{outgoing};
 ghost use Rattle.df_walk.specs.declared.Rules.TheVariants as rules;
 
@@ -66,7 +67,14 @@ fn answer_run<O: Sink, L: Ledger>(
         return Status::OutOfMemory;
     };
     let rules = Rules::Divisor;
-    match write_run(problem, &mut designs, rules, options.budget, shown, out, &mut steps) {
+    ran(write_run(problem, &mut designs, rules, options.budget, shown, out, &mut steps))
+}
+
+// The status of a run whose text was written.
+fn ran(written: Result<RunEnd, WriteFault>) -> Status
+    ensures { result ≡ ran_status written }
+{
+    match written {
         Ok(RunEnd::Finished) => Status::Done,
         Ok(RunEnd::Spent) => Status::Spent,
         Err(WriteFault) => Status::WriteFault,
