@@ -3,3 +3,7 @@ pub mod CutRows
 pub mod NumbersRead
 pub mod EntriesBack
 pub mod PathsBack
+pub mod SpentSteps
+pub mod SourceTexts
+pub mod PathTests
+pub mod StreamSteps

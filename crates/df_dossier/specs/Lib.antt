@@ -5,3 +5,7 @@ pub mod Designs
 pub mod Reads
 pub mod RoundTrips
 pub mod Judging
+pub mod Dossiers
+pub mod Sources
+pub mod Spent
+pub mod SpentStreams

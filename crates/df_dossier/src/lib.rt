@@ -5,12 +5,17 @@
 //! cite `specs/Entries`, `specs/Paths`, `specs/Designs` and `specs/Judging`. That what is written is read back are the laws `.._read_back`.
 #![tactic(auto)]
 
+mod designs;
 mod entries;
 mod judge;
 mod laws;
 mod numbers;
 mod paths;
 mod put;
+mod source_text;
+mod spent;
+mod stages;
+mod stream;
 
 pub use df_walk::{CutRow, Entry, Rules};
 pub use entries::{MOST_ROWS, MOST_WEIGHT, read_entry};
@@ -18,9 +23,12 @@ pub use judge::{DossierFault, LineJudge, Piece};
 pub use laws::{entries_are_read_back, paths_are_read_back};
 pub use numbers::{MOST_COUNT, MOST_NUMBER};
 pub use paths::{PathRead, read_path};
+pub use designs::{DesignRead, read_design};
 pub use put::{
     put_design_block, put_design_start, put_end, put_entry, put_path_column, put_path_start,
 };
+pub use spent::{Spent, SpentError, read_spent};
+pub use stream::{StreamError, read_spent_stream};
 
 #[cfg(test)]
 mod tests;
