@@ -59,7 +59,8 @@ count_back n tokens small = ap (option_map (λ m. tokens)) (within_back 0 184467
 
 -- the tokens of a spent end line
 pub spent_tokens : (p : WrittenPath) (designs nodes : ℕ) → IsWritten p → p.size ≤ 4294967295 → designs < 2 ^ 64 → nodes < 2 ^ 64
-    → tokens_of (spaced (end_tokens false designs nodes) ++ path_text p) ≡ codes "end" ∷ codes "spent" ∷ codes "designs" ∷ decimal designs ∷ codes "nodes" ∷ decimal nodes ∷ codes "next" ∷ path_tokens p
+    → tokens_of (spaced (end_tokens false designs nodes) ++ path_text p)
+    ≡ codes "end" ∷ codes "spent" ∷ codes "designs" ∷ decimal designs ∷ codes "nodes" ∷ decimal nodes ∷ codes "next" ∷ path_tokens p
 spent_tokens p designs nodes is high few_designs few_nodes =
     let all = codes "spent" ∷ codes "designs" ∷ decimal designs ∷ codes "nodes" ∷ decimal nodes ∷ codes "next" ∷ path_tokens p in
     let line : spaced (end_tokens false designs nodes) ++ path_text p ≡ spaced (codes "end" ∷ all) =

@@ -15,21 +15,21 @@ mod put;
 mod source_text;
 mod spent;
 mod stages;
-mod stream;
 
+pub use designs::{DesignRead, read_design};
 pub use df_walk::{CutRow, Entry, Rules};
 pub use entries::{MOST_ROWS, MOST_WEIGHT, read_entry};
 pub use judge::{DossierFault, LineJudge, Piece};
 pub use laws::{entries_are_read_back, paths_are_read_back};
 pub use numbers::{MOST_COUNT, MOST_NUMBER};
 pub use paths::{PathRead, read_path};
-pub use designs::{DesignRead, read_design};
 pub use put::{
     put_design_block, put_design_start, put_end, put_entry, put_path_column, put_path_start,
 };
 pub use spent::{Spent, SpentError, read_spent};
-pub use stream::{StreamError, read_spent_stream};
 
+#[cfg(test)]
+mod dossier_tests;
 #[cfg(test)]
 mod tests;
 

@@ -29,10 +29,7 @@ pub struct Spent {
 #[derive(Clone, Copy, Debug, PartialEq, Eq)]
 pub enum SpentError {
     /// A line breaks a rule: its number, from 1, or 0 for the end of the input, and the first rule that it breaks.
-    Refused {
-        line: u64,
-        fault: DossierFault,
-    },
+    Refused { line: u64, fault: DossierFault },
     /// The allocator had no memory left.
     OutOfMemory,
 }

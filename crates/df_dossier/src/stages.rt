@@ -96,12 +96,7 @@ fn head_line(number: u64, line: &[u8]) -> Result<Stage, SpentError>
 }
 
 // The line with the number of source lines.
-fn count_line(
-    alloc: Global,
-    rules: Rules,
-    number: u64,
-    line: &[u8],
-) -> Result<Stage, SpentError>
+fn count_line(alloc: Global, rules: Rules, number: u64, line: &[u8]) -> Result<Stage, SpentError>
     ensures goes { GoesOn (stage.Count rules) number line.now result }
     ensures place { IfOk result (λ next. StandsAt next (number + 1)) }
 {

@@ -1,5 +1,6 @@
 use Rattle.std.proofs.Common.{◌≡◌, ◌+◌, ◌∷◌, [], Err, drop, refl, sym, ap, subst, ◌∙◌}
-use Rattle.df_io.specs.Lines.{lines_of, part}
+use Rattle.std.specs.List.{slice_range}
+use Rattle.df_io.specs.Lines.{lines_of}
 use Rattle.df_io.specs.Joined.{Each, Lacks, is_line_feed}
 use Rattle.df_dossier.specs.declared.stages.Stage.TheVariants as stage
 use Rattle.df_dossier.specs.Spent.{spent, rest_from, StandsAt, GivesSpent}
@@ -28,10 +29,10 @@ loop-line-preserved c =
     let rest = lines_of (drop c.next.new.self.at bytes) in (
       c.in-Some.ensures.text ∙ l.invariant.0,
       ap (λ n. rest_from c.in-Ok.next (n + 1) rest) number.1
-      ∙ sym (c.in-Ok.ensures.goes rest)
-      ∙ ap (λ n. rest_from l.stage n (part bytes line.start line.end ∷ rest)) number.0
-      ∙ ap (λ ls. rest_from l.stage (l.lines.number + 1) ls) (sym split)
-      ∙ l.invariant.1,
+          ∙ sym (c.in-Ok.ensures.goes rest)
+          ∙ ap (λ n. rest_from l.stage n (slice_range bytes line.start line.end ∷ rest)) number.0
+          ∙ ap (λ ls. rest_from l.stage (l.lines.number + 1) ls) (sym split)
+          ∙ l.invariant.1,
       subst (λ n. StandsAt c.in-Ok.next (n + 1)) (sym number.1) c.in-Ok.ensures.place,
     )
 
@@ -42,10 +43,10 @@ returns-in-Err c =
     let l = c.loop-line in
     let split = rw l.invariant.0 at c.in-Some.ensures.line in
     let rest = lines_of (drop c.next.new.self.at bytes) in
-    refusal_given l.stage line.number (part bytes line.start line.end) c.in-Err.error rest (spent bytes) c.in-Err.ensures.goes
-      (ap (λ n. rest_from l.stage n (part bytes line.start line.end ∷ rest)) c.in-Some.ensures.number.0
-        ∙ ap (λ ls. rest_from l.stage (l.lines.number + 1) ls) (sym split)
-        ∙ l.invariant.1)
+    refusal_given l.stage line.number (slice_range bytes line.start line.end) c.in-Err.error rest (spent bytes) c.in-Err.ensures.goes
+    (ap (λ n. rest_from l.stage n (slice_range bytes line.start line.end ∷ rest)) c.in-Some.ensures.number.0
+    ∙ ap (λ ls. rest_from l.stage (l.lines.number + 1) ls) (sym split)
+    ∙ l.invariant.1)
 
 pub returns : goal.returns
 returns c =

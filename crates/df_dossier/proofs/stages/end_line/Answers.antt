@@ -22,8 +22,8 @@ returns-in-Ok-clause-goes c = λ lines.
     let a = c.args in
     let e = c.in-End in
     ends a.rules a.problem a.number a.line.now lines a.piece (Some record { designs = e.designs; nodes = e.nodes; next = Some c.in-Ok.path }) c.requires
-      (ap (ending_by line_path a.line.now) (e.is ∙ ap (λ b. piece.End b e.designs e.nodes) c.if-finished.false)
-        ∙ ap (option_map (λ w. record { designs = e.designs; nodes = e.nodes; next = Some w })) (path_said a.line.now c.in-Ok.path c.in-Ok.ensures))
+    (ap (ending_by line_path a.line.now) (e.is ∙ ap (λ b. piece.End b e.designs e.nodes) c.if-finished.false)
+    ∙ ap (option_map (λ w. record { designs = e.designs; nodes = e.nodes; next = Some w })) (path_said a.line.now c.in-Ok.path c.in-Ok.ensures))
 
 pub returns-in-Err-Bad-clause-goes : goal.returns-in-Err-Bad-clause-goes
 returns-in-Err-Bad-clause-goes c =
@@ -31,6 +31,6 @@ returns-in-Err-Bad-clause-goes c =
     let e = c.in-End in
     let none = path_none a.line.now (subst (λ (r : PathRead). ReadsPath a.line.now (Err r)) c.in-Err-Bad.field-0-is c.in-Err-Bad.ensures) in
     subst (λ (e : SpentError). GoesOn (stage.Log a.rules a.problem) a.number a.line.now (Err e)) (sym c.refused-in-Err-Bad.ensures) (λ lines.
-      ends a.rules a.problem a.number a.line.now lines a.piece None c.requires
-        (ap (ending_by line_path a.line.now) (e.is ∙ ap (λ b. piece.End b e.designs e.nodes) c.if-finished.false)
-          ∙ ap (option_map (λ w. record { designs = e.designs; nodes = e.nodes; next = Some w })) none))
+    ends a.rules a.problem a.number a.line.now lines a.piece None c.requires
+    (ap (ending_by line_path a.line.now) (e.is ∙ ap (λ b. piece.End b e.designs e.nodes) c.if-finished.false)
+    ∙ ap (option_map (λ w. record { designs = e.designs; nodes = e.nodes; next = Some w })) none))

@@ -27,4 +27,4 @@ returns-in-Err-Bad-clause-goes c =
     let first : bytes_eq c.in-Some.word.now (codes "from") ≡ true = ap (λ w. bytes_eq c.in-Some.word.now w) (sym c.as_slice.ensures) ∙ not_false _ c.if-ne.ensures in
     let none = path_none a.line.now (subst (λ (r : PathRead). ReadsPath a.line.now (Err r)) c.in-Err-Bad.field-0-is c.in-Err-Bad.ensures) in
     subst (λ (e : SpentError). GoesOn (stage.From a.rules a.problem) a.number a.line.now (Err e)) (sym c.refused-in-Err-Bad.ensures) (λ lines.
-      start_refused a.rules a.problem a.number a.line.now lines c.in-Some.word.now (left c.next_token.new.self) are first none)
+    start_refused a.rules a.problem a.number a.line.now lines c.in-Some.word.now (left c.next_token.new.self) are first none)
