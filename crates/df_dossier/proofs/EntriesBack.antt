@@ -51,7 +51,7 @@ cut_back before (w ∷ ws) some each =
     ∙ cut_back (before ++ w ∷ []) ws (omega (arith, length-append before (w ∷ []))) each.2
     ∙ ap Some (append_assoc before (w ∷ []) ws)
 
-tokens_are : (rules : Rules) (e : Entry) → IsLogged rules e → Each IsToken (entry_tokens e)
+pub tokens_are : (rules : Rules) (e : Entry) → IsLogged rules e → Each IsToken (entry_tokens e)
 tokens_are rules (Branch column) is = (word_token (codes "branch") (omega arith) refl, (decimal_token column (omega (arith, is)), tt))
 tokens_are rules (Over row) is = (word_token (codes "over") (omega arith) refl, (decimal_token row (omega (arith, is)), tt))
 tokens_are rules (Under row) is = (word_token (codes "under") (omega arith) refl, (decimal_token row (omega (arith, is)), tt))

@@ -3,3 +3,8 @@ pub mod CutRows
 pub mod NumbersRead
 pub mod EntriesBack
 pub mod PathsBack
+pub mod Rising
+pub mod Drafts
+pub mod SpentSteps
+pub mod SourceTexts
+pub mod PathTests

@@ -1,5 +1,5 @@
 // The lines of dossiers in their order: what each is, and the first that breaks a rule.
-ghost use Rattle.std.specs.Prelude.{◌≡◌, ◌∷◌, option_map};
+ghost use Rattle.std.specs.Prelude.{◌≡◌, ◌≤◌, ◌∷◌, option_map, IfSome};
 ghost use Rattle.df_io.specs.Lines.{left, tokens_of};
 ghost use Rattle.df_dossier.specs.Judging.{bad as bad_is, rules_named as rules_of, head_of, count_of, after_source as after_is, end_of, named_count as named_count_of, line_judged, end_judged, next_of, tokens_judged};
 
@@ -187,7 +187,7 @@ fn head(line: &[u8]) -> Option<Judged>
     }
 }
 
-fn head_rules(word: &[u8], tokens: &mut Tokens<'_>) -> Option<Rules>
+pub(crate) fn head_rules(word: &[u8], tokens: &mut Tokens<'_>) -> Option<Rules>
     ensures { result ≡ head_of (word.now ∷ left tokens.old) }
 {
     if word != b"dossier".as_slice() {
@@ -226,8 +226,9 @@ fn count(rules: Rules, line: &[u8]) -> Option<Judged>
     }
 }
 
-fn source_count(word: &[u8], tokens: &mut Tokens<'_>) -> Option<u64>
-    ensures { result ≡ count_of (word.now ∷ left tokens.old) }
+pub(crate) fn source_count(word: &[u8], tokens: &mut Tokens<'_>) -> Option<u64>
+    ensures value { result ≡ count_of (word.now ∷ left tokens.old) }
+    ensures some { IfSome result (λ count. 1 ≤ count) }
 {
     if word != b"source".as_slice() {
         return None;
@@ -283,7 +284,7 @@ fn log(rules: Rules, line: &[u8]) -> Option<Judged>
 }
 
 // An end line, by the tokens behind `end`.
-fn end(tokens: &mut Tokens<'_>) -> Option<Piece>
+pub(crate) fn end(tokens: &mut Tokens<'_>) -> Option<Piece>
     ensures { result ≡ end_of (left tokens.old) }
 {
     let word = tokens.next_token()?;

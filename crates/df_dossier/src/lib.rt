@@ -5,13 +5,18 @@
 //! cite `specs/Entries`, `specs/Paths`, `specs/Designs` and `specs/Judging`. That what is written is read back are the laws `.._read_back`.
 #![tactic(auto)]
 
+mod designs;
 mod entries;
 mod judge;
 mod laws;
 mod numbers;
 mod paths;
 mod put;
+mod source_text;
+mod spent;
+mod stages;
 
+pub use designs::{DesignRead, read_design};
 pub use df_walk::{CutRow, Entry, Rules};
 pub use entries::{MOST_ROWS, MOST_WEIGHT, read_entry};
 pub use judge::{DossierFault, LineJudge, Piece};
@@ -21,7 +26,10 @@ pub use paths::{PathRead, read_path};
 pub use put::{
     put_design_block, put_design_start, put_end, put_entry, put_path_column, put_path_start,
 };
+pub use spent::{Spent, SpentError, read_spent};
 
+#[cfg(test)]
+mod dossier_tests;
 #[cfg(test)]
 mod tests;
 
