@@ -3,3 +3,7 @@ pub mod CutRows
 pub mod NumbersRead
 pub mod EntriesBack
 pub mod PathsBack
+pub mod EndsBack
+pub mod Rising
+pub mod Drafts
+pub mod LinesShort

@@ -57,15 +57,14 @@ begins_back p is high =
 count_back : (n : ℕ) (tokens : List (List ℕ)) → n < 2 ^ 64 → past_count (decimal n ∷ tokens) ≡ Some tokens
 count_back n tokens small = ap (option_map (λ m. tokens)) (within_back 0 18446744073709551615 n (omega arith) (omega (arith, small)) (omega arith))
 
-spent_back : (p : WrittenPath) (designs nodes : ℕ) → IsWritten p → p.size ≤ 4294967295 → designs < 2 ^ 64 → nodes < 2 ^ 64 → HasPath (spaced (end_tokens false designs nodes) ++ path_text p) p
-unfolding spent_path
-spent_back p designs nodes is high few_designs few_nodes =
-    let behind = codes "next" ∷ path_tokens p in
-    let mid = codes "nodes" ∷ decimal nodes ∷ behind in
-    let all = codes "spent" ∷ codes "designs" ∷ decimal designs ∷ mid in
+-- the tokens of a spent end line
+pub spent_tokens : (p : WrittenPath) (designs nodes : ℕ) → IsWritten p → p.size ≤ 4294967295 → designs < 2 ^ 64 → nodes < 2 ^ 64
+    → tokens_of (spaced (end_tokens false designs nodes) ++ path_text p)
+    ≡ codes "end" ∷ codes "spent" ∷ codes "designs" ∷ decimal designs ∷ codes "nodes" ∷ decimal nodes ∷ codes "next" ∷ path_tokens p
+spent_tokens p designs nodes is high few_designs few_nodes =
+    let all = codes "spent" ∷ codes "designs" ∷ decimal designs ∷ codes "nodes" ∷ decimal nodes ∷ codes "next" ∷ path_tokens p in
     let line : spaced (end_tokens false designs nodes) ++ path_text p ≡ spaced (codes "end" ∷ all) =
     spaced_after (codes "end") (codes "spent" ∷ codes "designs" ∷ decimal designs ∷ codes "nodes" ∷ decimal nodes ∷ codes "next" ∷ []) (path_tokens p) in
-    let tokens : tokens_of (spaced (end_tokens false designs nodes) ++ path_text p) ≡ codes "end" ∷ all =
     ap tokens_of line
     ∙ tokens_back (codes "end" ∷ all) (
       word_token (codes "end") (omega arith) refl,
@@ -86,9 +85,14 @@ spent_back p designs nodes is high few_designs few_nodes =
         ),
       ),
     )
-    in record {
+
+spent_back : (p : WrittenPath) (designs nodes : ℕ) → IsWritten p → p.size ≤ 4294967295 → designs < 2 ^ 64 → nodes < 2 ^ 64 → HasPath (spaced (end_tokens false designs nodes) ++ path_text p) p
+unfolding spent_path
+spent_back p designs nodes is high few_designs few_nodes =
+    let behind = codes "next" ∷ path_tokens p in
+    let mid = codes "nodes" ∷ decimal nodes ∷ behind in record {
       stated =
-          ap (λ ts. path_part ts >>? path_read) tokens
+          ap (λ ts. path_part ts >>? path_read) (spent_tokens p designs nodes is high few_designs few_nodes)
           ∙ ap (λ o. o >>? past (codes "nodes") >>? past_count >>? past (codes "next") >>? path_read) (count_back designs mid few_designs)
           ∙ ap (λ o. o >>? past (codes "next") >>? path_read) (count_back nodes behind few_nodes)
           ∙ path_back p is high;

@@ -1,5 +1,5 @@
 -- Numbers as tokens of a dossier's lines.
-use Rattle.std.specs.Prelude.{ℕ, Bool, ◌&&◌, List, [], ◌∷◌, nat_le, if◌then◌else◌, Option, Some, None, option_and_then}
+use Rattle.std.specs.Prelude.{ℕ, Bool, ◌&&◌, List, [], ◌∷◌, nat_le, if◌then◌else◌, Option, Some, None, option_map, option_and_then}
 use Rattle.std.specs.List.{flat_map}
 use Rattle.df_io.specs.Number.{number_read}
 use Rattle.df_io.specs.declared.numbers.NumberRead.{NumberRead}
@@ -33,6 +33,11 @@ first_then (token ∷ tokens) f = f token tokens
 abbrev pub ending : {A : Type 0} → List (List ℕ) → A → Option A
 ending [] x = Some x
 ending (token ∷ tokens) x = None
+
+-- the value of each, where each has one
+unfoldable pub values_of : {X Y : Type 0} → (X → Option Y) → List X → Option (List Y)
+values_of f [] = Some []
+values_of f (x ∷ xs) = f x >>? λ y. option_map (λ ys. y ∷ ys) (values_of f xs)
 
 -- tokens, each after a space
 abbrev pub after_spaces : List (List ℕ) → List ℕ
