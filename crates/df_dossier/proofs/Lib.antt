@@ -8,3 +8,5 @@ pub mod Drafts
 pub mod SpentSteps
 pub mod SourceTexts
 pub mod PathTests
+pub mod EndsBack
+pub mod LinesShort

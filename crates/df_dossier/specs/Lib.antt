@@ -4,8 +4,8 @@ pub mod Paths
 pub mod Designs
 pub mod DesignSteps
 pub mod Reads
-pub mod RoundTrips
 pub mod Judging
+pub mod RoundTrips
 pub mod Dossiers
 pub mod Sources
 pub mod Spent

@@ -11,6 +11,9 @@ use Rattle.df_dossier.specs.declared.numbers.TheConstants.{MOST_NUMBER}
 use Rattle.df_dossier.specs.declared.entries.TheConstants.{MOST_WEIGHT}
 use Rattle.df_dossier.specs.Entries.{may_follow, entry_of, entry_text}
 use Rattle.df_dossier.specs.Paths.{HasPath, path_text, end_tokens}
+use Rattle.df_dossier.specs.declared.judge.Piece.TheVariants.{End}
+use Rattle.df_dossier.specs.declared.judge.Awaits.TheVariants.{Log, Next}
+use Rattle.df_dossier.specs.Judging.{judged, line_judged}
 
 -- a weight that may stand in a cut
 abbrev pub IsWeight : ℤ → Type 0
@@ -49,3 +52,12 @@ pub record PathReadsBack (p : WrittenPath) : Type 0 where
 
 abbrev pub PathsReadBack : Type 0
 PathsReadBack = (p : WrittenPath) → IsWritten p → p.size ≤ MOST_NUMBER → PathReadsBack p
+
+-- an end line is read as its counts, that of a spent run with any path behind it
+pub record EndReadsBack (designs nodes : ℕ) : Type 0 where
+  pub finished : (rules : Rules) → line_judged (Log rules) (spaced (end_tokens true designs nodes)) ≡ Some (judged Next (End true designs nodes))
+  pub spent : (rules : Rules) (p : WrittenPath) → IsWritten p → p.size ≤ MOST_NUMBER
+      → line_judged (Log rules) (spaced (end_tokens false designs nodes) ++ path_text p) ≡ Some (judged Next (End false designs nodes))
+
+abbrev pub EndsReadBack : Type 0
+EndsReadBack = (designs nodes : ℕ) → designs < 2 ^ 64 → nodes < 2 ^ 64 → EndReadsBack designs nodes

@@ -1,8 +1,9 @@
 // Design lines, read.
 //
-// The points of a block are put into it one by one; each has to be at least the number after the last one, so that a token
-// costs the same however long the line is.
-ghost use Rattle.std.specs.Prelude.{◌≡◌, ◌∷◌, ◌++◌, ℕ, List, [], true, false, length, option_map, IfOk, Err, None, Some};
+// The points of a block are put into it one by one; each has to be at least the number after the
+// last one, so that a token costs the same however long the line is.
+ghost use Rattle.std.specs.Prelude.{◌≡◌, ◌∷◌, ◌++◌, ℕ, List, [], true, false, length, option_map};
+ghost use Rattle.std.specs.Prelude.{IfOk, Err, None, Some};
 ghost use Rattle.df_lists.specs.NumberSets.{has_member};
 ghost use Rattle.df_dossier.specs.Designs.{design_of, block_with, is_separator};
 ghost use Rattle.df_dossier.specs.DesignSteps.{drafted, with_point};
@@ -32,8 +33,9 @@ impl<T: Drop> From<AllocFailed<T>> for DesignRead {
     }
 }
 
-/// The blocks of a design line of the problem, in their order. `Bad` exactly where the line isn't one: `design`, and blocks
-/// with a `;` between each and the next, each of them points that increase, as many as one of the sizes says.
+/// The blocks of a design line of the problem, in their order. `Bad` exactly where the line isn't
+/// one: `design`, and blocks with a `;` between each and the next, each of them points that
+/// increase, as many as one of the sizes says.
 pub fn read_design(alloc: Global, problem: &Problem, line: &[u8]) -> Result<Vec<Block>, DesignRead>
     ensures ok { IfOk result (λ blocks. design_of problem.now line.now ≡ Some blocks.items) }
     ensures bad { result ≡ Err Bad → design_of problem.now line.now ≡ None }
@@ -90,7 +92,8 @@ impl Draft {
     // Takes one token more.
     fn take(&mut self, problem: &Problem, token: &[u8]) -> Result<(), DesignRead>
         ensures ok { IfOk result (λ _. (tokens : List (List ℕ))
-            → drafted problem.now self.old (token.now ∷ tokens) ≡ drafted problem.now self.new tokens) }
+            → drafted problem.now self.old (token.now ∷ tokens)
+            ≡ drafted problem.now self.new tokens) }
         ensures bad { result ≡ Err Bad → (tokens : List (List ℕ))
             → drafted problem.now self.old (token.now ∷ tokens) ≡ None }
     {
@@ -106,8 +109,12 @@ impl Draft {
 
     // The points so far are a block: they join the blocks.
     fn close(&mut self, problem: &Problem) -> Result<(), DesignRead>
-        ensures ok { IfOk result (λ _. (block_with problem.now self.old.points ≡ Some self.old.points)
-            × (self.new ≡ record { blocks = self.old.blocks ++ self.old.points ∷ []; points = [] })) }
+        ensures ok { IfOk result (λ _.
+            (block_with problem.now self.old.points ≡ Some self.old.points)
+            × (self.new ≡ record {
+              blocks = self.old.blocks ++ self.old.points ∷ [];
+              points = [];
+            })) }
         ensures bad { result ≡ Err Bad → block_with problem.now self.old.points ≡ None }
     {
         if !has_size(problem, self.points.size()) {

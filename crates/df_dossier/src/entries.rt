@@ -2,7 +2,9 @@
 ghost use Rattle.std.specs.Prelude.{◌≡◌, [], option_map, nat_lt};
 ghost use Rattle.std.specs.List.{list_all};
 ghost use Rattle.df_io.specs.Lines.{left};
-ghost use Rattle.df_dossier.specs.Entries.{entry_of, entry_word as word_of, one_place as one_of, residue_of, weight_of, weight_size as size_of, may_follow as fits, cut_from};
+ghost use Rattle.df_dossier.specs.Entries.{entry_of, entry_word as word_of, one_place as one_of};
+ghost use Rattle.df_dossier.specs.Entries.{residue_of, weight_of, weight_size as size_of};
+ghost use Rattle.df_dossier.specs.Entries.{may_follow as fits, cut_from};
 ghost use Rattle.df_dossier.specs.Tokens.{ending};
 ghost use Rattle.df_walk.specs.declared.Entry.TheVariants.{Settled};
 
@@ -28,8 +30,8 @@ pub enum EntryWord {
     Cut,
 }
 
-/// The entry of a line, by the rules of its dossier; `None` exactly where the line isn't an entry line. Residues and
-/// cuts stand in dossiers of the divisor's rules alone.
+/// The entry of a line, by the rules of its dossier; `None` exactly where the line isn't an entry
+/// line. Residues and cuts stand in dossiers of the divisor's rules alone.
 pub fn read_entry(line: &[u8], rules: Rules) -> Option<Entry>
     ensures { result ≡ entry_of rules line.now }
 {

@@ -1,8 +1,8 @@
 // What is written is read back: laws, each the contract of a function that does nothing.
-ghost use Rattle.df_dossier.specs.RoundTrips.{EntriesReadBack, PathsReadBack};
+ghost use Rattle.df_dossier.specs.RoundTrips.{EntriesReadBack, PathsReadBack, EndsReadBack};
 
-/// `read_entry` gives back each entry that `put_entry` writes: by either rules a branch, a row over or under and a
-/// settled one, and by the divisor's rules residues and cuts too.
+/// `read_entry` gives back each entry that `put_entry` writes: by either rules a branch, a row over
+/// or under and a settled one, and by the divisor's rules residues and cuts too.
 #[tactic(auto, using(crate::proofs::EntriesBack::entries_back))]
 pub fn entries_are_read_back()
     ensures { EntriesReadBack }
@@ -11,4 +11,10 @@ pub fn entries_are_read_back()
 /// `read_path` gives back each path, from its `from` line and from its `end` line.
 pub fn paths_are_read_back()
     ensures { PathsReadBack }
+{}
+
+/// `LineJudge` gives back what `put_end` writes, of a spent run with any path behind it.
+#[tactic(auto, using(crate::proofs::EndsBack::ends_back))]
+pub fn ends_are_read_back()
+    ensures { EndsReadBack }
 {}

@@ -1,14 +1,17 @@
 //! Dossiers, which a search writes and others read: their lines, each both ways.
-//! It stands on df_io for lines, tokens and numbers, on df_walk for entries and paths as words, on df_system for the type
-//! of paths, and on df_lang for the texts of blocks.
-//! The crates above write lines by the `put_` calls and read them by `LineJudge`, `read_entry` and `read_path`; clauses
-//! cite `specs/Entries`, `specs/Paths`, `specs/Designs` and `specs/Judging`. That what is written is read back are the laws `.._read_back`.
+//! It stands on df_io for lines, tokens and numbers, on df_walk for entries and paths as words, on
+//! df_system for the type of paths, and on df_lang for problems and the texts of points and blocks.
+//! The crates above write lines by the `put_` calls, with the laws `.._is_short` for their room, and
+//! read them by `LineJudge`, `read_entry`, `read_path` and `read_design`; clauses cite
+//! `specs/Entries`, `specs/Paths`, `specs/Designs` and `specs/Judging`. That what is written is read
+//! back are the laws `.._read_back`.
 #![tactic(auto)]
 
 mod designs;
 mod entries;
 mod judge;
 mod laws;
+mod lengths;
 mod numbers;
 mod paths;
 mod put;
@@ -20,7 +23,11 @@ pub use designs::{DesignRead, read_design};
 pub use df_walk::{CutRow, Entry, Rules};
 pub use entries::{MOST_ROWS, MOST_WEIGHT, read_entry};
 pub use judge::{DossierFault, LineJudge, Piece};
-pub use laws::{entries_are_read_back, paths_are_read_back};
+pub use laws::{ends_are_read_back, entries_are_read_back, paths_are_read_back};
+pub use lengths::{
+    END_BYTES, ENTRY_BYTES, PATH_BYTES, block_piece_is_short, end_text_is_short,
+    entry_text_is_short, path_piece_is_short,
+};
 pub use numbers::{MOST_COUNT, MOST_NUMBER};
 pub use paths::{PathRead, read_path};
 pub use put::{
@@ -28,6 +35,10 @@ pub use put::{
 };
 pub use spent::{Spent, SpentError, read_spent};
 
+#[cfg(test)]
+mod design_tests;
+#[cfg(test)]
+mod round_tests;
 #[cfg(test)]
 mod dossier_tests;
 #[cfg(test)]

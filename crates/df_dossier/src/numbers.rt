@@ -4,7 +4,8 @@ ghost use Rattle.df_dossier.specs.Tokens.{number_within as within, place_of};
 
 use df_io::{NumberRead, read_number};
 
-/// The largest number of a column or a row, and the largest divisor and length of a path: 4,294,967,295.
+/// The largest number of a column or a row, and the largest divisor and length of a path:
+/// 4,294,967,295.
 pub const MOST_NUMBER: u64 = 4_294_967_295;
 
 /// The largest count of designs or nodes: 18,446,744,073,709,551,615.

@@ -1,7 +1,8 @@
 // Paths, read from their lines.
 ghost use Rattle.std.specs.Prelude.{◌≡◌, ◌++◌, [], option_map, IfOk, Err, None, Some};
 ghost use Rattle.df_io.specs.Lines.{left};
-ghost use Rattle.df_dossier.specs.Paths.{places_of, past as past_of, past_count as past_count_of, spent_path as spent_path_of, path_part as path_part_of};
+ghost use Rattle.df_dossier.specs.Paths.{places_of, past as past_of, past_count as past_count_of};
+ghost use Rattle.df_dossier.specs.Paths.{spent_path as spent_path_of, path_part as path_part_of};
 ghost use Rattle.df_dossier.specs.Reads.{ReadsPath};
 ghost use Rattle.df_dossier.specs.declared.paths.PathRead.TheVariants.{Bad, OutOfMemory};
 
@@ -27,8 +28,8 @@ impl<T: Drop> From<AllocFailed<T>> for PathRead {
     }
 }
 
-/// The path of a `from` line or of a spent `end` line. `Bad` exactly where the line is neither, or what stands there
-/// isn't a path: a length and then columns that increase and are below it.
+/// The path of a `from` line or of a spent `end` line. `Bad` exactly where the line is neither, or
+/// what stands there isn't a path: a length and then columns that increase and are below it.
 pub fn read_path(alloc: Global, line: &[u8]) -> Result<Path, PathRead>
     ensures { ReadsPath line.now result }
 {

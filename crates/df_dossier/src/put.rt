@@ -1,5 +1,6 @@
 // The lines of a dossier, or their pieces, written to a buffer without line feeds.
-ghost use Rattle.std.specs.Prelude.{◌≡◌, ◌≤◌, ◌+◌, ◌++◌, ◌∷◌, length, length as length_of, codes, decimal};
+ghost use Rattle.std.specs.Prelude.{◌≡◌, ◌≤◌, ◌+◌, ◌++◌, ◌∷◌, length, length as length_of, codes};
+ghost use Rattle.std.specs.Prelude.{decimal};
 ghost use Rattle.std.specs.List.{flat_map};
 ghost use Rattle.arrayvec.specs.ArrayVec.{array_vec_len};
 ghost use Rattle.df_io.specs.Joined.{spaced};
@@ -39,7 +40,8 @@ pub fn put_entry(buf: &mut LineBuf, entry: Entry)
 fn put_one(buf: &mut LineBuf, word: &[u8], number: u32)
     requires { array_vec_len buf.old + length (word.now ++ decimal number) ≤ 1024 }
     ensures text { buf.new.items ≡ buf.old.items ++ (word.now ++ decimal number) }
-    ensures len { array_vec_len buf.new ≡ array_vec_len buf.old + length (word.now ++ decimal number) }
+    ensures len { array_vec_len buf.new
+        ≡ array_vec_len buf.old + length (word.now ++ decimal number) }
 {
     put_text(buf, word);
     put_number(buf, u64::from(number));
@@ -59,7 +61,8 @@ fn put_after(buf: &mut LineBuf, number: u32)
 fn put_row(buf: &mut LineBuf, row: CutRow)
     requires { array_vec_len buf.old + length (after_spaces (row_tokens row)) ≤ 1024 }
     ensures text { buf.new.items ≡ buf.old.items ++ after_spaces (row_tokens row) }
-    ensures len { array_vec_len buf.new ≡ array_vec_len buf.old + length (after_spaces (row_tokens row)) }
+    ensures len { array_vec_len buf.new
+        ≡ array_vec_len buf.old + length (after_spaces (row_tokens row)) }
 {
     buf.push(b' ');
     put_signed(buf, i64::from(row.weight));
@@ -68,9 +71,12 @@ fn put_row(buf: &mut LineBuf, row: CutRow)
 
 // Appends weighted rows.
 fn put_rows(buf: &mut LineBuf, rows: &[CutRow])
-    requires { array_vec_len buf.old + length (flat_map (λ w. after_spaces (row_tokens w)) rows.now) ≤ 1024 }
-    ensures text { buf.new.items ≡ buf.old.items ++ flat_map (λ w. after_spaces (row_tokens w)) rows.now }
-    ensures len { array_vec_len buf.new ≡ array_vec_len buf.old + length (flat_map (λ w. after_spaces (row_tokens w)) rows.now) }
+    requires { array_vec_len buf.old
+        + length (flat_map (λ w. after_spaces (row_tokens w)) rows.now) ≤ 1024 }
+    ensures text { buf.new.items
+        ≡ buf.old.items ++ flat_map (λ w. after_spaces (row_tokens w)) rows.now }
+    ensures len { array_vec_len buf.new ≡ array_vec_len buf.old
+        + length (flat_map (λ w. after_spaces (row_tokens w)) rows.now) }
 {
     for row in rows {
         put_row(buf, *row);
@@ -86,10 +92,12 @@ pub fn put_design_start(buf: &mut LineBuf)
     put_text(buf, b"design");
 }
 
-/// Appends the block of a design line at this place, from 0: behind a space, and from the second one on behind a `;`
-/// between spaces. The buffer has room for it; `block_text_is_short` of df_lang says how much is enough.
+/// Appends the block of a design line at this place, from 0: behind a space, and from the second
+/// one on behind a `;` between spaces. The buffer has room for it; `block_text_is_short` of df_lang
+/// says how much is enough.
 pub fn put_design_block(buf: &mut LineBuf, problem: &Problem, block: &Block, place: u64)
-    requires { array_vec_len buf.old + length (block_piece problem.now.group block.now place) ≤ 1024 }
+    requires { array_vec_len buf.old
+        + length (block_piece problem.now.group block.now place) ≤ 1024 }
     ensures text { buf.new.items ≡ buf.old.items ++ block_piece problem.now.group block.now place }
     ensures len { array_vec_len buf.new
         ≡ array_vec_len buf.old + length (block_piece problem.now.group block.now place) }
@@ -102,8 +110,8 @@ pub fn put_design_block(buf: &mut LineBuf, problem: &Problem, block: &Block, pla
     put_block(buf, problem, block);
 }
 
-/// Appends a space and the length of a path, with which it begins behind `from` or `next`. The buffer has room for
-/// them.
+/// Appends a space and the length of a path, with which it begins behind `from` or `next`. The
+/// buffer has room for them.
 pub fn put_path_start(buf: &mut LineBuf, length: u32)
     requires { array_vec_len buf.old + length_of (32 ∷ decimal length) ≤ 1024 }
     ensures text { buf.new.items ≡ buf.old.items ++ 32 ∷ decimal length }
@@ -121,12 +129,13 @@ pub fn put_path_column(buf: &mut LineBuf, column: u32)
     put_after(buf, column);
 }
 
-/// Appends an end line: of a run that finished the whole line, and else the part up to `next`, behind which the path
-/// stands. The buffer has room for it.
+/// Appends an end line: of a run that finished the whole line, and else the part up to `next`,
+/// behind which the path stands. The buffer has room for it.
 pub fn put_end(buf: &mut LineBuf, finished: bool, designs: u64, nodes: u64)
     requires { array_vec_len buf.old + length (spaced (end_tokens finished designs nodes)) ≤ 1024 }
     ensures text { buf.new.items ≡ buf.old.items ++ spaced (end_tokens finished designs nodes) }
-    ensures len { array_vec_len buf.new ≡ array_vec_len buf.old + length (spaced (end_tokens finished designs nodes)) }
+    ensures len { array_vec_len buf.new
+        ≡ array_vec_len buf.old + length (spaced (end_tokens finished designs nodes)) }
 {
     if finished {
         put_counts(buf, b"end finished designs ", designs, nodes);
@@ -138,9 +147,12 @@ pub fn put_end(buf: &mut LineBuf, finished: bool, designs: u64, nodes: u64)
 
 // Appends a text and the counts.
 fn put_counts(buf: &mut LineBuf, text: &[u8], designs: u64, nodes: u64)
-    requires { array_vec_len buf.old + length (text.now ++ decimal designs ++ codes " nodes " ++ decimal nodes) ≤ 1024 }
-    ensures text { buf.new.items ≡ buf.old.items ++ (text.now ++ decimal designs ++ codes " nodes " ++ decimal nodes) }
-    ensures len { array_vec_len buf.new ≡ array_vec_len buf.old + length (text.now ++ decimal designs ++ codes " nodes " ++ decimal nodes) }
+    requires { array_vec_len buf.old
+        + length (text.now ++ decimal designs ++ codes " nodes " ++ decimal nodes) ≤ 1024 }
+    ensures text { buf.new.items ≡ buf.old.items
+        ++ (text.now ++ decimal designs ++ codes " nodes " ++ decimal nodes) }
+    ensures len { array_vec_len buf.new ≡ array_vec_len buf.old
+        + length (text.now ++ decimal designs ++ codes " nodes " ++ decimal nodes) }
 {
     put_text(buf, text);
     put_number(buf, designs);

@@ -133,6 +133,11 @@ fn paths_are_read(rt: HostRuntime) -> Result<(), Fail> {
         b"from 2 1 1",
         b"from 4294967296",
         b"from 2 x",
+        b"from 3 3",
+        b"from 3 0 2 3",
+        b"from 3 2 0",
+        b"from -1",
+        b"From 0",
         b"next 2 1",
         b"end finished designs 2 nodes 4",
         b"end spent designs 1 nodes 3 next",
@@ -254,9 +259,123 @@ fn lines_are_judged(rt: HostRuntime) -> Result<(), Fail> {
             b"dossier 1\nsource 1\ng\nfrom 0\nend finished designs 0 nodes 0\nbranch 0",
             b"1csfFHH",
         ),
+        (b"dossier\n", b"HH"),
+        (b"Dossier 1\n", b"HH"),
+        (b"dossier 1x\n", b"HH"),
+        (b"dossier 02\n", b"HH"),
+        (b"dossier 1\nsource\n", b"1HH"),
+        (b"dossier 1\nsource x\n", b"1HH"),
+        (b"dossier 1\nsource 1 2\n", b"1HH"),
+        (b"dossier 1\nsources 1\n", b"1HH"),
+        (b"dossier 1\nsource 18446744073709551616\n", b"1HH"),
+        (b"dossier 2\nsource 18446744073709551615\n\n# x\n", b"2cssH"),
+        (b"dossier 2\n\n# x\nsource 2\n\n# x", b"2--cssH"),
+        (b"dossier 1\nsource 1\n\nFrom 0\n", b"1csHH"),
+        (
+            b" dossier\t1 # x\r\n\r\n\tsource 003\r\n# 1\r\n \r\n g\r\n from\t0\r\n \tsettled\r\n",
+            b"1-csssfeN",
+        ),
+        (
+            b"dossier 1\nsource 1\n\nfrom 0\nend finished designs 0 nodes 0\n# x\n\ndossier 2\nsource 1\n\nfrom 0\ncut 1 0\nend spent designs 0 nodes 0 next 0\n\t\n",
+            b"1csfF--2csfeS-.",
+        ),
     ] {
         let letters = letters(rt.alloc(), text)?;
         assert_eq!(rt; letters.as_slice(), read);
     }
     Ok(())
+}
+
+// A letter for a line of the log, in a dossier with this head.
+fn log_letter(head: &[u8], line: &[u8]) -> u8 {
+    let mut judge = LineJudge::new();
+    judge.line(head);
+    judge.line(b"source 1");
+    judge.line(b"");
+    judge.line(b"from 0");
+    letter(judge.line(line))
+}
+
+#[test]
+fn log_lines_are_judged_by_the_rules_of_their_head(rt: HostRuntime) {
+    for (line, plain, divisor) in [
+        (b"branch 0".as_slice(), b'e', b'e'),
+        (b"\tover\t4294967295\r", b'e', b'e'),
+        (b"under 007#8", b'e', b'e'),
+        (b"settled # 1", b'e', b'e'),
+        (b"residue 0 2", b'E', b'e'),
+        (b"residue 4294967295 4294967295", b'E', b'e'),
+        (b"cut 1 0", b'E', b'e'),
+        (b"cut -1000 0 1000 1", b'E', b'e'),
+        (b"design", b'd', b'd'),
+        (b"design 9 9 ;", b'd', b'd'),
+        (b"end finished designs 0 nodes 0", b'F', b'F'),
+        (
+            b"end finished designs 18446744073709551615 nodes 007 # x",
+            b'F',
+            b'F',
+        ),
+        (b"end spent designs 1 nodes 2 next", b'S', b'S'),
+        (b"\tend spent designs 1 nodes 2 next 1 1\r", b'S', b'S'),
+        (b"", b'-', b'-'),
+        (b" \t\r", b'-', b'-'),
+        (b"# end", b'-', b'-'),
+    ] {
+        assert_eq!(rt; log_letter(b"dossier 1", line), plain);
+        assert_eq!(rt; log_letter(b"dossier 2", line), divisor);
+    }
+}
+
+#[test]
+fn faults_of_log_lines_are_told(rt: HostRuntime) {
+    for head in [b"dossier 1".as_slice(), b"dossier 2"] {
+        for line in [
+            b"branch".as_slice(),
+            b"branch x",
+            b"branch -1",
+            b"branch 1 2",
+            b"branch 4294967296",
+            b"over",
+            b"over 0 0",
+            b"under 1.0",
+            b"settled 0",
+            b"Settled",
+            b"residue 1 1",
+            b"residue 1",
+            b"residue 1 2 3",
+            b"cut",
+            b"cut 1",
+            b"cut 0 1",
+            b"cut 1001 1",
+            b"cut 1 1 1 1",
+            b"cut 1 2 1 1",
+            b"from 0",
+            b"dossier 1",
+            b"source 1",
+            b"designs",
+            b"ends",
+            b"next 1",
+            b";",
+        ] {
+            assert_eq!(rt; log_letter(head, line), b'E');
+        }
+        for line in [
+            b"end".as_slice(),
+            b"end finished",
+            b"end finished designs",
+            b"end finished designs 1",
+            b"end finished designs 1 nodes",
+            b"end finished designs x nodes 1",
+            b"end finished designs 18446744073709551616 nodes 1",
+            b"end finished nodes 1 designs 1",
+            b"end finished designs 1 nodes 1 next 0",
+            b"end spent",
+            b"end spent designs 1 nodes 1",
+            b"end spent designs 1 nodes -1 next 0",
+            b"end spent designs 1 nodes 1 from 0",
+            b"end over designs 1 nodes 1",
+        ] {
+            assert_eq!(rt; log_letter(head, line), b'N');
+        }
+    }
 }
