@@ -8,3 +8,4 @@ pub mod Drafts
 pub mod SpentSteps
 pub mod SourceTexts
 pub mod PathTests
+pub mod SpentTexts

@@ -9,3 +9,4 @@ pub mod Judging
 pub mod Dossiers
 pub mod Sources
 pub mod Spent
+pub mod DossierTexts

@@ -20,7 +20,7 @@ pub use designs::{DesignRead, read_design};
 pub use df_walk::{CutRow, Entry, Rules};
 pub use entries::{MOST_ROWS, MOST_WEIGHT, read_entry};
 pub use judge::{DossierFault, LineJudge, Piece};
-pub use laws::{entries_are_read_back, paths_are_read_back};
+pub use laws::{entries_are_read_back, paths_are_read_back, spent_dossiers_are_read_back};
 pub use numbers::{MOST_COUNT, MOST_NUMBER};
 pub use paths::{PathRead, read_path};
 pub use put::{
