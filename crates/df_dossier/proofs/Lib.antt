@@ -8,5 +8,6 @@ pub mod Drafts
 pub mod SpentSteps
 pub mod SourceTexts
 pub mod PathTests
+pub mod SpentTexts
 pub mod EndsBack
 pub mod LinesShort

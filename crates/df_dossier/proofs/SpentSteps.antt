@@ -52,7 +52,7 @@ module _ (number : ℕ) (line : List ℕ) (lines : List (List ℕ)) where
       → rest_from stage.Head number (line ∷ lines) ≡ refused number fault.BadHead
   head_refused word tokens are is = ap head_then (first_refused fault.BadHead head_line number line lines word tokens are (ap head_of are ∙ is))
 
-start_alone : (rules : Rules) (source : List (List ℕ)) (p : Stated) (number : ℕ) (lines : List (List ℕ)) → (start_from whole rules source p number lines >>= spent_alone) ≡ start_rest rules p number lines
+pub start_alone : (rules : Rules) (source : List (List ℕ)) (p : Stated) (number : ℕ) (lines : List (List ℕ)) → (start_from whole rules source p number lines >>= spent_alone) ≡ start_rest rules p number lines
 start_alone rules source p number lines = started (first_line fault.BadHead (from_line whole) number lines) where
   logged : (start : Taken WrittenPath) (r : Result (Taken (Log WrittenPath (List (List ℕ)))) Refusal)
       → ((r >>= λ log. Ok record { value = record { rules = rules; source = source; problem = p; start = start.value; log = log.value }; number = log.number; after = log.after }) >>= spent_alone)

@@ -9,3 +9,4 @@ pub mod RoundTrips
 pub mod Dossiers
 pub mod Sources
 pub mod Spent
+pub mod DossierTexts

@@ -64,6 +64,7 @@ fn a_spent_dossier_is_read(rt: HostRuntime) -> Result<(), Fail> {
         }
         Err(_) => assert!(rt; false),
     }
+    spent_dossiers_are_read_back();
     Ok(())
 }
 

@@ -1,5 +1,6 @@
 // What is written is read back: laws, each the contract of a function that does nothing.
 ghost use Rattle.df_dossier.specs.RoundTrips.{EntriesReadBack, PathsReadBack, EndsReadBack};
+ghost use Rattle.df_dossier.specs.DossierTexts.{SpentReadBack};
 
 /// `read_entry` gives back each entry that `put_entry` writes: by either rules a branch, a row over
 /// or under and a settled one, and by the divisor's rules residues and cuts too.
@@ -17,4 +18,10 @@ pub fn paths_are_read_back()
 #[tactic(auto, using(crate::proofs::EndsBack::ends_back))]
 pub fn ends_are_read_back()
     ensures { EndsReadBack }
+{}
+
+/// The lines of a spent dossier, put together from its parts, are read as its problem, its path and its rules: whatever
+/// source lines state the problem, with entries, designs and comments in any order.
+pub fn spent_dossiers_are_read_back()
+    ensures { SpentReadBack }
 {}
