@@ -37,7 +37,7 @@ columns_step p column within = ap (λ l. columns_text (yes_columns_from column (
     here true = refl
     here false = refl
 
--- behind the first block the place of a block shows no more
+-- after the first block the place of a block makes no difference
 pub pieces_later : (fs : List ℕ) (place : ℕ) (blocks : List (List ℕ)) → block_pieces fs (place + 1) blocks ≡ block_pieces fs 1 blocks
 pieces_later fs place [] = refl
 pieces_later fs place (block ∷ blocks) =
