@@ -28,7 +28,7 @@ pub struct Develop<'a> {
     problem: &'a Problem,
     shifts: Subgroup,
     member: usize,
-    shift: Elem,
+    shift: u8,
     fixing: NumberSet,
 }
 
@@ -66,7 +66,7 @@ impl<'a> Develop<'a> {
             problem,
             shifts,
             member: 0,
-            shift: Elem(0),
+            shift: 0,
             fixing,
         }
     }
@@ -77,12 +77,12 @@ impl<'a> Develop<'a> {
     {
         let problem = self.problem;
         let member = member_at(problem, self.member)?;
-        let block = translated(problem, &member.block, self.shift);
-        match next_listed(problem, &self.shifts, &member, &self.fixing, self.shift.0 + 1) {
-            Some(shift) => self.shift = shift,
+        let block = translated(problem, &member.block, Elem(self.shift));
+        match next_listed(problem, &self.shifts, &member, &self.fixing, self.shift + 1) {
+            Some(shift) => self.shift = shift.0,
             None => {
                 self.member += 1;
-                self.shift = Elem(0);
+                self.shift = 0;
                 self.fixing = fixing_of(problem, &self.shifts, self.member);
             }
         }
@@ -147,7 +147,13 @@ fn is_listed_shift(
 }
 
 // Whether the member's translate by a shift g is listed.
-fn is_listed(problem: &Problem, shifts: &Subgroup, member: &Member, fixing: &NumberSet, g: Elem) -> bool
+fn is_listed(
+    problem: &Problem,
+    shifts: &Subgroup,
+    member: &Member,
+    fixing: &NumberSet,
+    g: Elem,
+) -> bool
     requires below { g < order_of problem.now.group }
     requires shift { has_member shifts.now g ≡ true }
     requires rules { IsStated problem.now }

@@ -24,8 +24,8 @@ invariant_of-self c =
     record {
       subgroup = c.self.invariant.subgroup;
       within = c.self.invariant.within;
-      below = f.within;
-      listed = subst (λ (l : List Member). IsListedOf s shifts l c.in-Some.shift) (sym c.in_ok-member.ensures.member) f.passes;
+      below = omega (arith, c.shift.view_is, f.within);
+      listed = subst (λ (g : ℕ). IsListedOf s shifts (drop c.self.inside.member s.family) g) (sym c.shift.view_is) (subst (λ (l : List Member). IsListedOf s shifts l c.in-Some.shift) (sym c.in_ok-member.ensures.member) f.passes);
       fixes = c.self.invariant.fixes;
     }
 
@@ -62,7 +62,7 @@ returns c =
           start ∙ rest_later s shifts m ms g c.self.invariant.below listed x f
           ∙ ap (λ (b : List ℕ). b ∷ rest_from s shifts (m ∷ ms) x) (sym c.translated-block.ensures)
           ∙ ap (λ (l : List Member). block ∷ rest_from s shifts l x) (sym here)
-          ∙ ap (λ (l : List (List ℕ)). block ∷ l) (sym w.self-is)
+          ∙ ap (λ (l : List (List ℕ)). block ∷ l) (ap (rest_from s shifts (drop i s.family)) (sym w.shift.view_is) ∙ sym w.self-is)
       | in-None w ↦
           let none = none_found test (range_with_len (g + 1) (order_of s.group - (g + 1))) (sym w.in-None.ensures) in
           start ∙ rest_last s shifts m ms g c.self.invariant.below listed (subgroup_closed s.group c.member_at.ensures.rules.shape shifts c.self.invariant.subgroup).set none
