@@ -1,8 +1,7 @@
 -- The path of a line, by a test of its columns.
-use Rattle.std.proofs.Common.{◌≡◌, ℕ, zero, suc, ◌+◌, ◌<◌, ◌≤◌, Bool, true, false, cond, ◌&&◌, leb, ltb, nat_le, nat_lt, List, [], ◌∷◌, length, slice_index, get_or, All, Option, Some, None, refl, sym, ap, ◌∙◌, arith, tests, add-one}
-use Rattle.std.specs.List.Sorted.{IsStrictlyIncreasing}
+use Rattle.std.proofs.Common.{◌≡◌, ℕ, zero, suc, ◌+◌, ◌<◌, ◌≤◌, Bool, true, false, cond, ◌&&◌, nat_le, nat_lt, List, [], ◌∷◌, length, get_or, Option, Some, None, refl, ap, ◌∙◌, arith, tests, add-one}
 use Rattle.df_io.specs.Lines.{tokens_of}
-use Rattle.df_walk.specs.Paths.{WrittenPath, IsWritten}
+use Rattle.df_walk.specs.Paths.{WrittenPath}
 use Rattle.df_dossier.specs.Tokens.{◌>>?◌}
 use Rattle.df_dossier.specs.Paths.{path_part, path_read, HasPath}
 use Rattle.df_dossier.specs.Dossiers.{are_columns, written, line_path}

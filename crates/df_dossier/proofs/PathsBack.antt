@@ -1,13 +1,13 @@
 -- Paths, read back from their lines.
-use Rattle.std.proofs.Common.{◌≡◌, ℕ, zero, suc, ◌+◌, ◌<◌, ◌≤◌, ◌^◌, true, false, List, [], ◌∷◌, ◌++◌, map, length, All, Some, option_map, codes, decimal, refl, sym, ap, subst, ◌∙◌, arith, append_assoc}
+use Rattle.std.proofs.Common.{◌≡◌, ℕ, suc, ◌<◌, ◌≤◌, ◌^◌, false, List, [], ◌∷◌, ◌++◌, map, All, Some, option_map, codes, decimal, refl, sym, ap, ◌∙◌, arith, append_assoc}
 use Rattle.df_io.specs.Lines.{tokens_of}
 use Rattle.df_io.specs.Joined.{Each, IsToken, spaced}
 use Rattle.df_io.proofs.Joining.{tokens_back}
 use Rattle.df_io.proofs.NumbersBack.{decimal_token}
 use Rattle.df_walk.specs.Paths.{WrittenPath, IsWritten}
-use Rattle.df_dossier.specs.Tokens.{◌>>?◌, after_spaces, number_within}
+use Rattle.df_dossier.specs.Tokens.{◌>>?◌, after_spaces}
 use Rattle.df_dossier.specs.Paths.{places_of, path_read, path_part, past, past_count, spent_path, path_tokens, path_text, end_tokens, HasPath}
-use Rattle.df_dossier.specs.RoundTrips.{PathReadsBack, PathsReadBack}
+use Rattle.df_dossier.specs.RoundTrips.{PathsReadBack}
 use Rattle.df_dossier.proofs.NumbersRead.{within_back, place_back, word_token}
 use Rattle.df_dossier.proofs.Joins.{join_after}
 

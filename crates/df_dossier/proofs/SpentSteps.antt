@@ -1,5 +1,5 @@
 -- One line more of a dossier that is read in part.
-use Rattle.std.proofs.Common.{◌≡◌, ◌==◌, ℕ, suc, ◌+◌, ◌-◌, ◌<◌, ◌≤◌, Bool, true, false, cond, ltb, nat_lt, List, [], ◌∷◌, ◌++◌, length, take, drop, Option, Some, None, option_map, ◌⊎◌, inl, inr, is_some, Result, Ok, Err, codes, bytes_eq, refl, sym, ap, ◌∙◌, arith, tests, add-one, append_assoc}
+use Rattle.std.proofs.Common.{◌≡◌, ℕ, suc, ◌+◌, ◌≤◌, Bool, true, false, cond, nat_lt, List, [], ◌∷◌, ◌++◌, length, take, drop, Option, Some, None, option_map, ◌⊎◌, inl, inr, is_some, Result, Ok, Err, codes, bytes_eq, refl, sym, ap, ◌∙◌, arith, tests, append_assoc}
 use Rattle.df_io.specs.Lines.{tokens_of}
 use Rattle.df_walk.specs.declared.Rules.{Rules}
 use Rattle.df_walk.specs.declared.Entry.{Entry}
@@ -20,7 +20,7 @@ use Rattle.df_dossier.specs.Tokens.{◌>>?◌}
 use Rattle.df_dossier.specs.Entries.{entry_of}
 use Rattle.df_dossier.specs.Paths.{past}
 use Rattle.df_dossier.specs.Judging.{head_of, count_of, end_of}
-use Rattle.df_dossier.specs.Dossiers.{Refusal, refused, Taken, Dossier, Log, Ending, Contents, some_token, has_tokens, said_or, first_line, head_line, count_line, from_line, begins, ending_by, end_line, item_or, item_line, item_before, log_from, start_from, stated_or, source_from, count_from, dossier_from, line_path, source_lines, whole}
+use Rattle.df_dossier.specs.Dossiers.{Refusal, refused, Taken, Log, Ending, some_token, said_or, first_line, head_line, count_line, from_line, begins, ending_by, end_line, item_or, item_line, item_before, log_from, start_from, stated_or, source_from, count_from, line_path, source_lines, whole}
 use Rattle.df_dossier.specs.Spent.{nothing_after, spent_end, spent_alone, source_rest, log_rest, start_rest, rest_from, IsEndLine, GoesOn, GivesSpent}
 
 -- the first line of some, where it has no token, where it has and says something, and where it doesn't

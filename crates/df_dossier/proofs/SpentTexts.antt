@@ -1,9 +1,9 @@
 -- The lines of a spent dossier, read back.
-use Rattle.std.proofs.Common.{◌≡◌, ◌==◌, ℕ, ◌+◌, ◌<◌, ◌≤◌, ◌^◌, Bool, true, false, cond, nat_lt, List, [], ◌∷◌, ◌++◌, length, take, drop, map, Option, Some, None, option_map, ◌⊎◌, inl, inr, Result, Ok, Err, codes, decimal, bytes_eq, refl, sym, ap, ◌∙◌, arith, tests, length-append}
+use Rattle.std.proofs.Common.{◌≡◌, ℕ, ◌+◌, ◌<◌, ◌≤◌, ◌^◌, Bool, true, false, cond, nat_lt, List, [], ◌∷◌, ◌++◌, length, take, drop, map, Some, None, option_map, inl, inr, Result, Ok, codes, decimal, bytes_eq, refl, sym, ap, ◌∙◌, arith, tests, length-append}
 use Rattle.std.proofs.lemmas.Slice.Eq.{bytes_eq-Decides}
-use Rattle.df_io.specs.Lines.{lines_of, tokens_of}
-use Rattle.df_io.specs.Joined.{Each, IsToken, spaced, text_of}
-use Rattle.df_io.proofs.Joining.{tokens_back, lines_back}
+use Rattle.df_io.specs.Lines.{tokens_of}
+use Rattle.df_io.specs.Joined.{Each, spaced}
+use Rattle.df_io.proofs.Joining.{tokens_back}
 use Rattle.df_io.proofs.NumbersBack.{decimal_token}
 use Rattle.df_walk.specs.declared.Rules.{Rules}
 use Rattle.df_walk.specs.declared.Rules.TheVariants.{Plain, Divisor}
@@ -17,15 +17,15 @@ use Rattle.df_dossier.specs.declared.judge.Piece.TheVariants as piece
 use Rattle.df_dossier.specs.declared.judge.DossierFault.TheVariants as fault
 use Rattle.df_dossier.specs.declared.spent.Spent.{Spent}
 use Rattle.df_dossier.specs.declared.stages.Stage.TheVariants as stage
-use Rattle.df_dossier.specs.Tokens.{◌>>?◌, number_within}
-use Rattle.df_dossier.specs.Entries.{entry_of, entry_tokens, entry_text}
-use Rattle.df_dossier.specs.Paths.{past, path_tokens, path_text, end_tokens, HasPath}
+use Rattle.df_dossier.specs.Tokens.{◌>>?◌}
+use Rattle.df_dossier.specs.Entries.{entry_tokens, entry_text}
+use Rattle.df_dossier.specs.Paths.{past, path_tokens}
 use Rattle.df_dossier.specs.Judging.{end_of, count_of, named_count, Counted}
 use Rattle.df_dossier.specs.Designs.{design_of, design_read, blocks_read}
 use Rattle.df_dossier.specs.RoundTrips.{IsLogged}
-use Rattle.df_dossier.specs.Dossiers.{Refusal, refused, begins, ending_by, item_line, source_lines, start_from, stated_or, line_path, whole}
-use Rattle.df_dossier.specs.Spent.{spent_alone, spent_lines, source_rest, start_rest, log_rest, rest_from, IsEndLine}
-use Rattle.df_dossier.specs.DossierTexts.{Logged, logged_text, rules_token, head_tokens, count_tokens, start_text, spent_text, dossier_lines, IsRunPath, IsLoggedLine, SpentReadBack}
+use Rattle.df_dossier.specs.Dossiers.{Refusal, refused, source_lines, start_from, stated_or, whole}
+use Rattle.df_dossier.specs.Spent.{spent_alone, source_rest, start_rest, log_rest, rest_from, IsEndLine}
+use Rattle.df_dossier.specs.DossierTexts.{Logged, logged_text, head_tokens, count_tokens, start_text, spent_text, IsRunPath, IsLoggedLine, SpentReadBack}
 use Rattle.df_dossier.proofs.NumbersRead.{within_back, word_token}
 use Rattle.df_dossier.proofs.EntriesBack.{tokens_are, entries_back}
 use Rattle.df_dossier.proofs.Joins.{join_after}

@@ -1,5 +1,5 @@
 -- The lines of a dossier, put together from its parts; what a search writes is read back.
-use Rattle.std.specs.Prelude.{◌≡◌, ℕ, ◌<◌, ◌≤◌, ◌^◌, true, false, List, [], ◌∷◌, ◌++◌, length, map, Some, ◌⊎◌, Ok, codes, decimal}
+use Rattle.std.specs.Prelude.{◌≡◌, ℕ, ◌≤◌, false, List, [], ◌∷◌, ◌++◌, length, map, Some, ◌⊎◌, Ok, codes, decimal}
 use mathlib.Core.Logic.{inl, inr}
 use Rattle.df_io.specs.Joined.{Each, spaced}
 use Rattle.df_walk.specs.declared.Rules.{Rules}
@@ -8,7 +8,6 @@ use Rattle.df_walk.specs.declared.Entry.{Entry}
 use Rattle.df_walk.specs.Paths.{WrittenPath, IsWritten}
 use Rattle.df_lang.specs.Problems.{Stated}
 use Rattle.df_dossier.specs.declared.numbers.TheConstants.{MOST_NUMBER, MOST_COUNT}
-use Rattle.df_dossier.specs.declared.spent.Spent.{Spent}
 use Rattle.df_dossier.specs.Entries.{entry_text}
 use Rattle.df_dossier.specs.Paths.{path_text, end_tokens}
 use Rattle.df_dossier.specs.Designs.{design_of}

@@ -1,7 +1,7 @@
 -- Whole dossiers: the parts that the lines of one have, in their order, or the first line that breaks a rule.
-use Rattle.std.specs.Prelude.{◌==◌, ℕ, ◌+◌, Bool, ◌&&◌, true, false, is_some, List, [], ◌∷◌, length, take, drop, map, nat_lt, nat_le, if◌then◌else◌, Option, Some, None, option_map, ◌⊎◌, Result, Ok, Err, codes, bytes_eq}
+use Rattle.std.specs.Prelude.{ℕ, ◌+◌, Bool, ◌&&◌, true, false, is_some, List, [], ◌∷◌, length, take, drop, map, nat_lt, nat_le, if◌then◌else◌, Option, Some, None, option_map, ◌⊎◌, Result, Ok, Err, codes}
 use mathlib.Core.Logic.{inl, inr}
-use Rattle.df_io.specs.Lines.{lines_of, tokens_of}
+use Rattle.df_io.specs.Lines.{tokens_of}
 use Rattle.df_walk.specs.declared.Rules.{Rules}
 use Rattle.df_walk.specs.declared.Entry.{Entry}
 use Rattle.df_walk.specs.Paths.{WrittenPath}
@@ -14,7 +14,7 @@ use Rattle.df_dossier.specs.declared.judge.DossierFault.{DossierFault}
 use Rattle.df_dossier.specs.declared.judge.DossierFault.TheVariants as fault
 use Rattle.df_dossier.specs.declared.judge.Piece.{Piece}
 use Rattle.df_dossier.specs.declared.judge.Piece.TheVariants as piece
-use Rattle.df_dossier.specs.Tokens.{◌>>?◌, first_then}
+use Rattle.df_dossier.specs.Tokens.{◌>>?◌}
 use Rattle.df_dossier.specs.Entries.{entry_of}
 use Rattle.df_dossier.specs.Paths.{past, path_part, path_read}
 use Rattle.df_dossier.specs.Judging.{head_of, count_of, end_of}

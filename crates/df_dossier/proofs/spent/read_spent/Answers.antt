@@ -1,8 +1,7 @@
-use Rattle.std.proofs.Common.{◌≡◌, ◌+◌, ◌∷◌, [], Err, drop, refl, sym, ap, subst, ◌∙◌}
+use Rattle.std.proofs.Common.{◌+◌, ◌∷◌, drop, refl, sym, ap, subst, ◌∙◌}
 use Rattle.std.specs.List.{slice_range}
 use Rattle.df_io.specs.Lines.{lines_of}
 use Rattle.df_io.specs.Joined.{Each, Lacks, is_line_feed}
-use Rattle.df_dossier.specs.declared.stages.Stage.TheVariants as stage
 use Rattle.df_dossier.specs.Spent.{spent, rest_from, StandsAt, GivesSpent}
 use Rattle.df_dossier.proofs.SourceTexts.{lines_lack}
 use Rattle.df_dossier.proofs.SpentSteps.{refusal_given}

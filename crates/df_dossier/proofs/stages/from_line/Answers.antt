@@ -1,5 +1,5 @@
-use Rattle.std.proofs.Common.{◌≡◌, ◌∷◌, Bool, true, false, not, bytes_eq, codes, Err, sym, ap, subst, refl, ◌∙◌}
-use Rattle.df_io.specs.Lines.{left, tokens_of}
+use Rattle.std.proofs.Common.{◌≡◌, Bool, true, false, not, bytes_eq, codes, Err, sym, ap, subst, refl, ◌∙◌}
+use Rattle.df_io.specs.Lines.{left}
 use Rattle.df_dossier.specs.declared.paths.PathRead.{PathRead}
 use Rattle.df_dossier.specs.declared.spent.SpentError.{SpentError}
 use Rattle.df_dossier.specs.declared.stages.Stage.TheVariants as stage
