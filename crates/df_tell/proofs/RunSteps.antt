@@ -1,6 +1,5 @@
 -- Steps that a writer of a run passes, and the run that is left.
 use Rattle.std.proofs.Common.{◌≡◌, ◌++◌, ◌∷◌, [], ℕ, ◌+◌, ◌<◌, ◌≤◌, Bool, true, false, List, length, map, Option, None, Some, Result, Ok, Err, refl, sym, ap, ap₂, ◌∙◌, subst, arith, append-nil, append_assoc, length-append}
-use Rattle.std.specs.Prelude.{IfOk, IsNone}
 use Rattle.std.specs.Result.{IsErr}
 use Rattle.std.specs.List.{flat_map, AllByRecursion}
 use Rattle.std.proofs.lemmas.Grind.{flat_map-append}
@@ -18,7 +17,7 @@ use Rattle.df_runs.specs.Runs.{run_over, run_of, then_run, IsCounted}
 use Rattle.df_runs.proofs.StepLists.{all_front}
 use Rattle.df_runs.proofs.BudgetRuns.{run_after}
 use Rattle.df_runs.proofs.WalkRuns.{steps-counted}
-use Rattle.df_search.specs.Searches.{Searching, StandsBefore, Passes, Gives, Finds, Stops, Ends}
+use Rattle.df_search.specs.Searches.{Searching, StandsBefore, Passes, Gives, Finds}
 use Rattle.df_lang.specs.Problems.{Stated}
 use Rattle.df_kramer_mesner.specs.OrbitSystems.{orbit_system}
 use Rattle.df_correspondence.specs.Designs.{design}
@@ -27,9 +26,8 @@ use Rattle.df_dossier.specs.Entries.{entry_text}
 use Rattle.df_tell.specs.declared.run.Shown.{Shown}
 use Rattle.df_tell.specs.declared.run.Counts.{Counts}
 use Rattle.df_tell.specs.declared.run.RunEnd.{RunEnd}
-use Rattle.df_tell.specs.declared.run.RunEnd.TheVariants.{Finished, Spent}
 use Rattle.df_tell.specs.Run.{step_lines, design_lines, solution_lines, as_written}
-use Rattle.df_tell.specs.RunSteps.{IsOf, AreCounted, run_left, Tells, stop_at, IsOver, EndsOrGoesOn, IsRan}
+use Rattle.df_tell.specs.RunSteps.{IsOf, AreCounted, run_left, Tells, stop_at, IsOver, IsRan}
 use Rattle.df_tell.proofs.SilentRuns.{silent_lines}
 
 -- each solution stands at a node
@@ -175,25 +173,6 @@ stays_tells problem same passes counted = record {
   rules = passes.rules;
   writes = writes_nothing;
 }
-
--- the run is over where the budget is spent and where nothing remains
-pub stops_over : (q new : Searching) (n left : ℕ) → Stops q n new left → IsOver new left Spent
-stops_over q new n left stops =
-    let node = stops.node.node in
-    let first = stops.first in
-    let spent = stops.spent in
-    let place = stops.stands.place in record { run = rw (first, spent, place, node) refl; place = λ e. rw place refl }
-
-pub ends_over : (q new : Searching) (n left : ℕ) → Ends q n new left → IsOver new left Finished
-ends_over q new n left ends =
-    let none = ends.end in
-    record { run = rw none refl; place = λ e. absurd (let h = e in cc) }
-
--- after an answer where more may remain, fewer entries are left
-pub goes_on_shorter : (result : Result (Option RunEnd) WriteFault) (q new : Searching) (left : ℕ) → IfOk result IsNone → length new.rest < length q.rest → IfOk result (EndsOrGoesOn q new left)
-goes_on_shorter (Ok None) q new left none fewer = fewer
-goes_on_shorter (Ok (Some end)) q new left none fewer = absurd (let h = none in cc)
-goes_on_shorter (Err e) q new left none fewer = tt
 
 -- the run of which steps were passed: these, and those of the run left
 pub tells_run : {K : Type 0} {w : K → Option (List ℕ)} {f : K → ℕ} {shown : Shown} {s : Stated} {q new : Remaining} {c d : Counts} {a b : K} {r : Result (Unit {0}) WriteFault}

@@ -21,7 +21,7 @@ use Rattle.std.specs.List.{flat_map}
 use Rattle.df_search.specs.Searches.{Searching}
 use Rattle.df_tell.specs.declared.run.Shown.{Shown}
 use Rattle.df_tell.specs.declared.run.RunEnd.{RunEnd}
-use Rattle.df_tell.specs.declared.run.RunEnd.TheVariants.{Finished, Spent}
+use Rattle.df_tell.specs.declared.run.RunEnd.TheVariants.{Spent}
 use Rattle.df_tell.specs.Run.{path_end, block_pieces, design_line, block_comment, comment_lines, solution_lines, end_text}
 use Rattle.df_tell.specs.RunSteps.{columns_text, column_text, stop_at}
 
@@ -37,7 +37,7 @@ columns_step p column within = ap (λ l. columns_text (yes_columns_from column (
     here true = refl
     here false = refl
 
--- behind the first block the place of a block shows no more
+-- after the first block the place of a block makes no difference
 pub pieces_later : (fs : List ℕ) (place : ℕ) (blocks : List (List ℕ)) → block_pieces fs (place + 1) blocks ≡ block_pieces fs 1 blocks
 pieces_later fs place [] = refl
 pieces_later fs place (block ∷ blocks) =
@@ -90,6 +90,3 @@ end_short false designs nodes d n = let a = decimal_short designs d in let b = d
 -- the end line of a spent run
 pub spent_end : (designs nodes : ℕ) (end : RunEnd) (q : Searching) (p : List Bool) → end ≡ Spent → q.place ≡ Some p → spaced (end_tokens false designs nodes) ++ path_end p ≡ end_text designs nodes (stop_at end q)
 spent_end designs nodes end q p is place = rw (is, place) refl
-
-pub finished_end : (designs nodes : ℕ) (end : RunEnd) (q : Searching) → end ≡ Finished → spaced (end_tokens true designs nodes) ++ 10 ∷ [] ≡ end_text designs nodes (stop_at end q)
-finished_end designs nodes end q is = rw is refl

@@ -18,7 +18,7 @@ use Rattle.df_tell.specs.declared.run.RunEnd.{RunEnd}
 use Rattle.df_tell.specs.declared.run.RunEnd.TheVariants.{Finished, Spent}
 use Rattle.df_tell.specs.Run.{step_lines}
 
--- the yes columns of a path, behind its length
+-- the yes columns of a path, which stand after its length
 abbrev pub columns_text : List ℕ → List ℕ
 columns_text columns = after_spaces (map decimal columns)
 

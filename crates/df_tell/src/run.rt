@@ -1,7 +1,8 @@
 // The text of a run: a dossier, whose designs are printed as the search comes to them.
 // A run without a log asks for one design after another, so that the search may leap over the
 // entries between; a run with a log asks for each entry. Both write what is defined of the run's
-// steps: one loop goes through both, since a step is told by what was passed (specs/RunSteps).
+// steps: one loop goes through both, and a contract says which steps a round passed and what was
+// written of them (specs/RunSteps).
 ghost use Rattle.std.specs.Prelude.{◌≡◌, ◌≤◌, ◌<◌, ◌+◌, ◌^◌, ◌++◌, ◌∷◌, [], ℕ, List, Bool, true, false, codes, decimal, length, Some, IfOk, IsSome, IsNone};
 ghost use Rattle.std.specs.List.{flat_map};
 ghost use Rattle.arrayvec.specs.ArrayVec.{array_vec_len};
@@ -36,7 +37,7 @@ use std::sync::ledger::Ledger;
 pub struct Shown {
     /// A line for each entry.
     pub log: bool,
-    /// Behind each design line a comment line for each block of the design.
+    /// After each design line a comment line for each block of the design.
     pub blocks: bool,
 }
 

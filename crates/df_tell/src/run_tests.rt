@@ -149,7 +149,7 @@ end spent designs 1 nodes 3 next 2 1
 }
 
 #[test]
-fn the_blocks_of_each_design_stand_behind_it(rt: HostRuntime) {
+fn the_blocks_of_each_design_stand_after_it(rt: HostRuntime) {
     let lines = "design 0 1 3
 # block 0 1 3
 # block 0 2 6
