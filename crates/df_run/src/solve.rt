@@ -67,7 +67,15 @@ fn answer_run<O: Sink, L: Ledger>(
         return Status::OutOfMemory;
     };
     let rules = Rules::Divisor;
-    ran(write_run(problem, &mut designs, rules, options.budget, shown, out, &mut steps))
+    ran(write_run(
+        problem,
+        &mut designs,
+        rules,
+        options.budget,
+        shown,
+        out,
+        &mut steps,
+    ))
 }
 
 // The status of a run whose text was written.

@@ -23,7 +23,10 @@ fn assert_solved(
     let (status, _, sink) = run_over(rt.alloc(), words, source.as_bytes(), 64, 0, 65_536)?;
     let text = sink.bytes.as_slice();
     assert_eq!(rt; status.code(), code, "at {source}");
-    assert!(rt; text.starts_with(begin.as_bytes()), "the beginning at {source}");
+    assert!(rt;
+        text.starts_with(begin.as_bytes()),
+        "the beginning at {source}"
+    );
     assert!(rt; text.ends_with(end.as_bytes()), "the end at {source}");
     Ok(())
 }
@@ -194,8 +197,14 @@ fn spends_each_budget(rt: HostRuntime) -> Result<(), Fail> {
 #[test]
 fn tells_faults_of_a_search(rt: HostRuntime) -> Result<(), Fail> {
     for failing in 1..4u64 {
-        let (status, _, sink) =
-            run_over(rt.alloc(), &["solve"], SEVEN.as_bytes(), 16, failing, 4096)?;
+        let (status, _, sink) = run_over(
+            rt.alloc(),
+            &["solve"],
+            SEVEN.as_bytes(),
+            16,
+            failing,
+            4096,
+        )?;
         assert_eq!(rt; status.code(), 4, "at call {failing}");
         assert_eq!(rt; sink.bytes.len(), 0);
     }
