@@ -136,14 +136,7 @@ ghosts-run g a = record { name = a.blank.name; parts = a.blank.parts }
 
 
 def build(folder):
-    own = crates.copy(folder, "listings", CRATES)
-    (own / "src" / "main.rt").write_text(PROGRAM)
-    for name, text in PROOFS.items():
-        (own / "proofs" / name).mkdir(parents=True)
-        (own / "proofs" / name / "Invariants.antt").write_text(text)
-    print("proving and building; this takes some minutes", file=sys.stderr)
-    subprocess.run(["rt", "run", "--", "group 7/k 3/lambda 1", "0", "1", "1"], cwd=own, check=True, stdout=sys.stderr)
-    return own / "out" / "listings"
+    return crates.build(folder, "listings", CRATES, PROGRAM, PROOFS, ["group 7/k 3/lambda 1", "0", "1", "1"])
 
 
 def run(program, words):
