@@ -1,5 +1,5 @@
-"""Copies crates of this repository, with all crates that they use, beside a program of a script's own."""
-import pathlib, shutil
+"""Copies crates of this repository, with all crates that they use, beside a program of a script's own, and builds it."""
+import pathlib, shutil, subprocess, sys
 
 TOP = pathlib.Path(__file__).resolve().parent.parent
 
@@ -35,3 +35,15 @@ def copy(folder, program, names):
     own = folder / "crates" / program
     (own / "src").mkdir(parents=True)
     return own
+
+
+def build(folder, program, names, text, proofs, words):
+    """Proves and builds a program of this text, whose functions have these invariants, and runs it once with some words. Gives its file."""
+    own = copy(folder, program, names)
+    (own / "src" / "main.rt").write_text(text)
+    for function, proof in proofs.items():
+        (own / "proofs" / function).mkdir(parents=True)
+        (own / "proofs" / function / "Invariants.antt").write_text(proof)
+    print("proving and building; this takes some minutes", file=sys.stderr)
+    subprocess.run(["rt", "run", "--", *words], cwd=own, check=True, stdin=subprocess.DEVNULL, stdout=sys.stderr)
+    return own / "out" / program

@@ -105,14 +105,7 @@ ghosts-decide g a = record { name = a.blank.name; parts = a.blank.parts }
 
 
 def build(folder):
-    own = crates.copy(folder, "decisions", CRATES)
-    (own / "src" / "main.rt").write_text(PROGRAM)
-    for name, text in PROOFS.items():
-        (own / "proofs" / name).mkdir(parents=True)
-        (own / "proofs" / name / "Invariants.antt").write_text(text)
-    print("proving and building; this takes some minutes", file=sys.stderr)
-    subprocess.run(["rt", "run", "--", "0"], cwd=own, check=True, stdout=sys.stderr)
-    return own / "out" / "decisions"
+    return crates.build(folder, "decisions", CRATES, PROGRAM, PROOFS, ["0"])
 
 
 def seconds(program, size, rounds):

@@ -22,6 +22,8 @@ PROBLEMS = (
     ("2-(64,4,1), 2 2 2 2 2 2", "group 2 2 2 2 2 2/mult 1/k 4/lambda 1", 50, 20),
     ("2-(64,4,1), short orbits", "group 4 4 4/k 4/lambda 1", 50, 20),
     ("2-(21,5,1) cyclic", "group 21/k 5/lambda 1", 2, 20000),
+    # more blocks than are held ready
+    ("2-(25,3,23), all triples", "group 25/k 3/lambda 23", 1, 200),
 )
 
 PROGRAM = '''//! Lists the first designs of a problem: listings TEXT HOW ROUNDS DESIGNS, where the lines of TEXT stand between strokes, and HOW is 0 for base blocks and 1 for all blocks.
@@ -136,14 +138,7 @@ ghosts-run g a = record { name = a.blank.name; parts = a.blank.parts }
 
 
 def build(folder):
-    own = crates.copy(folder, "listings", CRATES)
-    (own / "src" / "main.rt").write_text(PROGRAM)
-    for name, text in PROOFS.items():
-        (own / "proofs" / name).mkdir(parents=True)
-        (own / "proofs" / name / "Invariants.antt").write_text(text)
-    print("proving and building; this takes some minutes", file=sys.stderr)
-    subprocess.run(["rt", "run", "--", "group 7/k 3/lambda 1", "0", "1", "1"], cwd=own, check=True, stdout=sys.stderr)
-    return own / "out" / "listings"
+    return crates.build(folder, "listings", CRATES, PROGRAM, PROOFS, ["group 7/k 3/lambda 1", "0", "1", "1"])
 
 
 def run(program, words):

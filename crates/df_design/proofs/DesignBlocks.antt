@@ -22,8 +22,9 @@ use Rattle.df_acting.specs.Representatives.{is_representative}
 use Rattle.df_families.specs.Families.{picked}
 use Rattle.df_families.proofs.FamilyLists.{picked_inside}
 use Rattle.df_correspondence.specs.Designs.{design}
+use Rattle.df_design.specs.declared.blocks.TheConstants.{READY}
 use Rattle.df_design.specs.LeftBlocks.{is_after, blocks_after, IsSettled, IsImageAfter, AreGathered, Begins}
-use Rattle.df_design.proofs.ReadyBlocks.{begins}
+use Rattle.df_design.proofs.ReadyBlocks.{begins, no_rest}
 
 pub design_sorted : CandidatesAreAll → (s : Stated) (x : List Bool) → IsSorted before (design s x)
 design_sorted all s x = sorted-filter before (has_in_orbit s (picked (columns_of s) x)) (all_blocks s) (all (point_count s) s.sizes).sorted
@@ -66,8 +67,9 @@ module _ (s : Stated) (A : AreGroup (maps_of_problem s)) (x : List Bool) where
   -- with no base block left, what is ready begins the design's blocks after the last one
   pub gathered : IsOrder before → CandidatesAreAll → (last : Option (List ℕ)) (ready : List (List ℕ)) → AreGathered s x last ready [] → Begins (blocks_after s x last) ready
   gathered O all last ready h =
-      let start = begins O (blocks_after s x last) ready (sorted-filter before (is_after last) (design s x) (design_sorted all s x)) h.sorted h.found (λ y i. earlier y (settled y i)) in
-      record { rest = start.0; joined = start.1; none = none ready settled }
+      let sorted = sorted-filter before (is_after last) (design s x) (design_sorted all s x) in
+      let start = begins O (blocks_after s x last) ready sorted h.sorted h.found (λ y i. earlier y (settled y i)) in
+      record { rest = start.0; joined = start.1; whole = λ l. no_rest O (blocks_after s x last) ready start.0 sorted start.1 (λ y i. here y l (settled y i)) }
     where
       settled : (y : List ℕ) → In (blocks_after s x last) y → IsSettled ready y
       settled y i = let r = left_image last y i in ⊎_elim (λ none. absurd none) (λ f. f y r.2) (h.met r.0 r.1)
@@ -76,16 +78,10 @@ module _ (s : Stated) (A : AreGroup (maps_of_problem s)) (x : List Bool) where
       earlier y (inl i) = inl i
       earlier y (inr f) = inr f.1
 
-      empty : (blocks : List (List ℕ)) → ((y : List ℕ) → In blocks y → ⊥) → blocks ≡ []
-      empty [] f = refl
-      empty (y ∷ ys) f = absurd (f y (inl refl))
-
-      none : (list : List (List ℕ)) → ((y : List ℕ) → In (blocks_after s x last) y → IsSettled list y) → list ≡ [] → blocks_after s x last ≡ []
-      none list f e = empty (blocks_after s x last) (λ y i. no_room y (subst (λ l. IsSettled l y) e (f y i)))
-        where
-          no_room : (y : List ℕ) → IsSettled [] y → ⊥
-          no_room y (inl i) = i
-          no_room y (inr f) = let full = f.0 in omega arith
+      -- where fewer are ready than there may be, a block that is settled is ready
+      here : (y : List ℕ) → length ready < READY → IsSettled ready y → In ready y
+      here y l (inl i) = i
+      here y l (inr f) = absurd (omega (arith, l, f.0))
 
   -- one base block more
   pub gather_more : (last : Option (List ℕ)) (ready new : List (List ℕ)) (c : List ℕ) (left : List (List ℕ)) → AreGathered s x last ready (c ∷ left)

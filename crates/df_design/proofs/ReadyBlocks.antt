@@ -1,7 +1,7 @@
 -- The earliest of the blocks that were met, up to a number of them: what a block more makes of them, and that they begin the list of all of them.
-use Rattle.std.proofs.Common.{◌≡◌, ℕ, suc, zero, ◌+◌, ◌-◌, ◌<◌, ◌≤◌, Bool, true, false, List, [], ◌∷◌, ◌++◌, length, get_or, take, drop, refl, sym, ap, ap₂, ◌∙◌, subst, inl, inr, ◌⊎◌, ⊎_elim, arith, length-append, append_assoc, ◌≢◌, ◌&&◌, not, eqb, ltb, eq-eqb, eqb-true, lt-ltb, ltb-true, Option, None, Some}
+use Rattle.std.proofs.Common.{◌≡◌, ℕ, suc, zero, ◌+◌, ◌-◌, ◌<◌, ◌≤◌, Bool, true, false, List, [], ◌∷◌, ◌++◌, length, get_or, take, drop, refl, sym, ap, ap₂, ◌∙◌, subst, inl, inr, ◌⊎◌, ⊎_elim, arith, length-append, append_assoc, ◌≢◌, ◌&&◌, eqb, eq-eqb, eqb-true, Option, None, Some}
 use Rattle.std.specs.Prelude.{option_to_list}
-use Rattle.std.proofs.lemmas.Bool.{false≢true, and_parts, cases_eq, not-true, not-false}
+use Rattle.std.proofs.lemmas.Bool.{false≢true, and_parts, cases_eq}
 use Rattle.std.proofs.lemmas.List.{take-append-drop, take-append-le, drop-append-le}
 use Rattle.df_lists.specs.Membership.{In}
 use Rattle.df_lists.specs.Orders.{IsOrder, IsSorted}
@@ -9,7 +9,7 @@ use Rattle.df_lists.proofs.MemberLaws.{In-append_cases, In-append_left, In-appen
 use Rattle.df_lists.proofs.ListPlaces.{In-get_or}
 use Rattle.df_lists.proofs.SortedLists.{sorted-append}
 use Rattle.df_subsets.specs.Blocks.{before}
-use Rattle.df_design.specs.LeftBlocks.{IsSettled, IsMet}
+use Rattle.df_design.specs.LeftBlocks.{IsSettled, IsPlaceFor, IsMet}
 use Rattle.df_design.specs.declared.blocks.TheConstants.{READY}
 
 -- parts of a sorted list
@@ -38,8 +38,13 @@ and_second : (a b : Bool) → a ≡ true → (a && b) ≡ false → b ≡ false
 and_second true b e h = h
 and_second false b e h = absurd (false≢true e)
 
-stands_later : (place n : ℕ) (v : Bool) → place < n → (ltb place n && not v) ≡ false → v ≡ true
-stands_later place n v l h = not-false v (and_second (ltb place n) (not v) (lt-ltb place n l) h)
+-- what holds at each place from one on holds of each member past those before it
+drop_after : (xs : List (List ℕ)) (i : ℕ) (y : List ℕ) → ((j : ℕ) → i ≤ j → j < length xs → before y (get_or xs j []) ≡ true) → (z : List ℕ) → In (drop i xs) z → before y z ≡ true
+drop_after [] zero y h z i = absurd i
+drop_after [] (suc n) y h z i = absurd i
+drop_after (x ∷ xs) zero y h z (inl e) = subst (λ w. before y w ≡ true) e (h 0 (omega arith) (omega arith))
+drop_after (x ∷ xs) zero y h z (inr i) = drop_after xs zero y (λ j m l. h (suc j) (omega arith) (omega (arith, l))) z i
+drop_after (x ∷ xs) (suc n) y h z i = drop_after xs n y (λ j m l. h (suc j) (omega (arith, m)) (omega (arith, l))) z i
 
 module _ (O : IsOrder before) where
   -- what comes after the last member comes after all
@@ -55,17 +60,8 @@ module _ (O : IsOrder before) where
   not_self : (x y : List ℕ) → x ≡ y → before x y ≡ true → ⊥
   not_self x y e h = false≢true (sym (O.unlike x) ∙ subst (λ w. before x w ≡ true) (sym e) h)
 
-  not_both : (x y : List ℕ) → before x y ≡ true → before y x ≡ true → ⊥
+  pub not_both : (x y : List ℕ) → before x y ≡ true → before y x ≡ true → ⊥
   not_both x y h k = false≢true (sym (O.unlike x) ∙ O.onward x y x h k)
-
-  -- from a block on that isn't before another and isn't it, the other is before all
-  pub before_rest : (b y : List ℕ) (rest : List (List ℕ)) → IsSorted before (b ∷ rest) → before b y ≡ false → (b ≡ y → ⊥) → (z : List ℕ) → In (b ∷ rest) z → before y z ≡ true
-  before_rest b y rest s h unlike z i = go (before y b) refl i
-    where
-      go : (v : Bool) → before y b ≡ v → In (b ∷ rest) z → before y z ≡ true
-      go false e j = absurd (unlike (O.either b y h e))
-      go true e (inl k) = subst (λ w. before y w ≡ true) k e
-      go true e (inr j) = O.onward y b z e (s.0 z j)
 
   -- a block that is put between those before it and those after it
   pub put_sorted : (xs ys : List (List ℕ)) (y : List ℕ) → IsSorted before (xs ++ ys) → ((z : List ℕ) → In xs z → before z y ≡ true) → ((z : List ℕ) → In ys z → before y z ≡ true) → IsSorted before (xs ++ y ∷ ys)
@@ -136,14 +132,6 @@ module _ (O : IsOrder before) where
   pub met_before : (xs : List (List ℕ)) (y : List ℕ) → IsSorted before xs → In xs y → IsMet xs y xs
   met_before xs y s i = record { sorted = s; inside = λ z j. inl j; here = inl i; still = λ z h. h }
 
-  -- from a place on whose block comes after another, the other comes before all
-  high_rest : (xs : List (List ℕ)) (place : ℕ) (y : List ℕ) → IsSorted before xs → (place < length xs → before y (get_or xs place []) ≡ true) → (z : List ℕ) → In (drop place xs) z → before y z ≡ true
-  high_rest [] zero y s h z i = absurd i
-  high_rest [] (suc n) y s h z i = absurd i
-  high_rest (x ∷ xs) zero y s h z (inl e) = subst (λ w. before y w ≡ true) e (h (omega arith))
-  high_rest (x ∷ xs) zero y s h z (inr j) = O.onward y x z (h (omega arith)) (s.0 z j)
-  high_rest (x ∷ xs) (suc n) y s h z i = high_rest xs n y s.1 (λ l. h (omega (arith, l))) z i
-
   -- it comes after as many as there may be
   pub met_late : (xs : List (List ℕ)) (y : List ℕ) → IsSorted before xs → (eqb (length xs) READY && before (get_or xs (READY - 1) []) y) ≡ true → IsMet xs y xs
   met_late xs y s h =
@@ -151,40 +139,31 @@ module _ (O : IsOrder before) where
       let full = eqb-true (length xs) READY p.0 in
       left_out xs y s full (λ z i. late xs (READY - 1) y s full p.1 z i)
 
-  -- it stands at a place whose block isn't before it
-  pub met_there : (xs : List (List ℕ)) (place : ℕ) (y : List ℕ) → IsSorted before xs → (place < length xs → before (get_or xs place []) y ≡ false) → (ltb place (length xs) && not (before y (get_or xs place []))) ≡ true → IsMet xs y xs
-  met_there xs place y s there h =
-      let p = and_parts (ltb place (length xs)) (not (before y (get_or xs place []))) h in
-      let l = ltb-true place (length xs) p.0 in
-      met_before xs y s (subst (In xs) (O.either (get_or xs place []) y (there l) (not-true (before y (get_or xs place [])) p.1)) (In-get_or xs place [] l))
-
-  -- it stands nowhere, and there is room for it at a place
-  pub met_room : (xs : List (List ℕ)) (place : ℕ) (y : List ℕ) → IsSorted before xs → length xs < READY → ((j : ℕ) → j < place → before (get_or xs j []) y ≡ true) → (ltb place (length xs) && not (before y (get_or xs place []))) ≡ false
-      → IsMet xs y (take place xs ++ y ∷ drop place xs)
-  met_room xs place y s room low h =
+  -- there is room for it at its place
+  pub met_room : (xs : List (List ℕ)) (place : ℕ) (y : List ℕ) → IsSorted before xs → length xs < READY → IsPlaceFor xs y place → IsMet xs y (take place xs ++ y ∷ drop place xs)
+  met_room xs place y s room p =
       let whole = take-append-drop place xs in
       subst (λ l. IsMet l y (take place xs ++ y ∷ drop place xs)) whole
-      (put (take place xs) (drop place xs) y (subst (IsSorted before) (sym whole) s) (subst (λ l. length l < READY) (sym whole) room) (take_before xs place y low) (high_rest xs place y s (λ l. stands_later place (length xs) (before y (get_or xs place [])) l h)))
+      (put (take place xs) (drop place xs) y (subst (IsSorted before) (sym whole) s) (subst (λ l. length l < READY) (sym whole) room) (take_before xs place y p.earlier) (drop_after xs place y p.later))
 
   -- and there is room for it once the last one is given up
-  pub met_full : (xs ys : List (List ℕ)) (popped : Option (List ℕ)) (place : ℕ) (y : List ℕ) → IsSorted before xs → length xs ≡ READY → xs ≡ ys ++ option_to_list popped → length ys + 1 ≡ length xs → place ≤ length ys
-      → ((j : ℕ) → j < place → before (get_or xs j []) y ≡ true) → (ltb place (length xs) && not (before y (get_or xs place []))) ≡ false
+  pub met_full : (xs ys : List (List ℕ)) (popped : Option (List ℕ)) (place : ℕ) (y : List ℕ) → IsSorted before xs → length xs ≡ READY → xs ≡ ys ++ option_to_list popped → length ys + 1 ≡ length xs → place ≤ length ys → IsPlaceFor xs y place
       → IsMet xs y (take place ys ++ y ∷ drop place ys)
-  met_full xs ys None place y s full e long l low h = absurd (omega (arith, ap length e, length-append ys [], long))
-  met_full xs ys (Some last) place y s full e long l low h =
+  met_full xs ys None place y s full e long l p = absurd (omega (arith, ap length e, length-append ys [], long))
+  met_full xs ys (Some last) place y s full e long l p =
       let whole : take place ys ++ (drop place ys ++ last ∷ []) ≡ xs = sym (append_assoc (take place ys) (drop place ys) (last ∷ [])) ∙ ap (λ l. l ++ last ∷ []) (take-append-drop place ys) ∙ sym e in
       subst (λ l. IsMet l y (take place ys ++ y ∷ drop place ys)) whole
       (put_full (take place ys) (drop place ys) last y (subst (IsSorted before) (sym whole) s) (ap length whole ∙ full)
-      (λ z i. take_before xs place y low z (subst (λ l. In l z) (sym (ap (take place) e ∙ take-append-le place ys (last ∷ []) l)) i))
-      (λ z i. high_rest xs place y s (λ k. stands_later place (length xs) (before y (get_or xs place [])) k h) z (subst (λ l. In l z) (sym (ap (drop place) e ∙ drop-append-le place ys (last ∷ []) l)) i)))
+      (λ z i. take_before xs place y p.earlier z (subst (λ l. In l z) (sym (ap (take place) e ∙ take-append-le place ys (last ∷ []) l)) i))
+      (λ z i. drop_after xs place y p.later z (subst (λ l. In l z) (sym (ap (drop place) e ∙ drop-append-le place ys (last ∷ []) l)) i)))
 
   -- a full list that a block doesn't come late for has a place for it before its last
-  pub place_early : (xs : List (List ℕ)) (place : ℕ) (y : List ℕ) → place ≤ length xs → length xs ≡ READY → ((j : ℕ) → j < place → before (get_or xs j []) y ≡ true) → (eqb (length xs) READY && before (get_or xs (READY - 1) []) y) ≡ false → place ≤ READY - 1
-  place_early xs place y l full low h = go (cases_eq place READY)
+  pub place_early : (xs : List (List ℕ)) (place : ℕ) (y : List ℕ) → length xs ≡ READY → IsPlaceFor xs y place → (eqb (length xs) READY && before (get_or xs (READY - 1) []) y) ≡ false → place ≤ READY - 1
+  place_early xs place y full p h = go (cases_eq place READY)
     where
       go : (place ≡ READY) ⊎ (place ≢ READY) → place ≤ READY - 1
-      go (inl e) = absurd (false≢true (sym (and_second (eqb (length xs) READY) (before (get_or xs (READY - 1) []) y) (eq-eqb (length xs) READY full) h) ∙ low (READY - 1) (omega (arith, e))))
-      go (inr ne) = omega (arith, l, full, ne)
+      go (inl e) = absurd (false≢true (sym (and_second (eqb (length xs) READY) (before (get_or xs (READY - 1) []) y) (eq-eqb (length xs) READY full) h) ∙ p.earlier (READY - 1) (omega (arith, e))))
+      go (inr ne) = omega (arith, p.within, full, ne)
 
   -- an increasing list begins with the earliest of its members
   pub begins : (all ready : List (List ℕ)) → IsSorted before all → IsSorted before ready → ((y : List ℕ) → In ready y → In all y) → ((y : List ℕ) → In all y → In ready y ⊎ ((z : List ℕ) → In ready z → before z y ≡ true))
@@ -203,3 +182,10 @@ module _ (O : IsOrder before) where
       heads (inr i) (inl (inl e)) = sym e
       heads (inr i) (inl (inr j)) = absurd (not_both a r (s.0 r i) (t.0 a j))
       heads (inr i) (inr f) = absurd (not_both a r (s.0 r i) (f r (inl refl)))
+
+  -- and it is all of it where each of its members is there
+  pub no_rest : (all ready rest : List (List ℕ)) → IsSorted before all → all ≡ ready ++ rest → ((y : List ℕ) → In all y → In ready y) → rest ≡ []
+  no_rest all ready [] s e have = refl
+  no_rest all ready (r ∷ rest) s e have =
+      let here = have r (subst (λ l. In l r) (sym e) (In-append_right ready (r ∷ rest) r (inl refl))) in
+      absurd (not_self r r refl (sorted_across ready (r ∷ rest) r r (subst (IsSorted before) e s) here (inl refl)))

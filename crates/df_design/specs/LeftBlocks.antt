@@ -46,6 +46,13 @@ pub record IsImageAfter (M : MapGroup) (b : List ℕ) (last : Option (List ℕ))
 abbrev pub IsSettled : List (List ℕ) → List ℕ → Type 0
 IsSettled ready y = In ready y ⊎ ((length ready ≡ READY) × ((z : List ℕ) → In ready z → before z y ≡ true))
 
+-- a block may be put at the place: the blocks in front of it come before the block, and the others
+-- come after it
+pub record IsPlaceFor (ready : List (List ℕ)) (y : List ℕ) (place : ℕ) : Type 0 where
+  pub within : place ≤ length ready
+  pub earlier : (j : ℕ) → j < place → before (slice_index_or ready j []) y ≡ true
+  pub later : (j : ℕ) → place ≤ j → j < length ready → before y (slice_index_or ready j []) ≡ true
+
 -- a block was met: the earliest of those that were ready and of it are, as many as there may be
 pub record IsMet (ready : List (List ℕ)) (y : List ℕ) (new : List (List ℕ)) : Type 0 where
   pub sorted : IsSorted before new
@@ -72,16 +79,18 @@ pub record AreGathered (s : Stated) (x : List Bool) (last : Option (List ℕ)) (
       (c : List ℕ) → In (picked (columns_of s) x) c
       → In left c ⊎ ((y : List ℕ) → IsImageAfter (maps_of_problem s) c last y → IsSettled ready y)
 
--- the ready blocks begin the list, and there is one where the list has one
+-- the ready blocks begin the list, and are all of it where there are fewer than there may be
 pub record Begins (blocks ready : List (List ℕ)) : Type 0 where
   pub rest : List (List ℕ)
   pub joined : blocks ≡ ready ++ rest
-  pub none : ready ≡ [] → blocks ≡ []
+  pub whole : length ready < READY → rest ≡ []
 
 -- the vector has a value for each column, the maps are those of the problem, and the ready blocks
--- from a place on begin what is left
+-- from a place on begin what is left: all of it, where fewer are ready than there may be
 pub record AreLeft (s : Stated) (x : List Bool) (maps : MapGroup) (last : Option (List ℕ)) (ready : List (List ℕ)) (place : ℕ) : Type 0 where
   pub long : length x ≡ length (columns_of s)
   pub maps_are : maps ≡ maps_of_problem s
+  pub within : place < READY
   pub rest : List (List ℕ)
   pub joined : blocks_after s x last ≡ drop place ready ++ rest
+  pub whole : length ready < READY → rest ≡ []

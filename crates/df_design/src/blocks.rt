@@ -1,10 +1,10 @@
 // The blocks of a design, increasing and each once, without memory that grows.
 //
 // The design's blocks are the images of its base blocks under all maps, which come in no order and, where an orbit is short, more
-// than once. So the images are passed and the earliest of those after the last block are held ready, at most `READY` of them; when
-// these are handed out, the images are passed again. A design of b base blocks under m maps costs one pass over its vector and
-// m * b images for each `READY` blocks.
-ghost use Rattle.std.specs.Prelude.{◌≡◌, ◌==◌, ◌&&◌, ◌∷◌, [], ◌⊎◌, ◌≤◌, ◌<◌, ◌-◌, ℕ, List, true, false, length, slice_index_or, nat_lt, not, MatchOption};
+// than once. So the images are passed and the earliest of those after the last block are held ready, at most `READY` of them: the
+// place of each is found by halving. When as many are handed out, the images are passed again; where fewer were ready, they were
+// all. A design of b base blocks under m maps costs one pass over its vector and m * b images for each `READY` blocks.
+ghost use Rattle.std.specs.Prelude.{◌≡◌, ◌==◌, ◌&&◌, ◌∷◌, [], ◌⊎◌, ◌-◌, ℕ, List, length, slice_index_or, MatchOption, MatchResult};
 ghost use Rattle.df_lists.specs.Membership.{In};
 ghost use Rattle.df_lists.specs.Orders.{IsSorted};
 ghost use Rattle.df_lists.specs.NumberSets.{IsSet};
@@ -12,7 +12,7 @@ ghost use Rattle.df_subsets.specs.Blocks.{before};
 ghost use Rattle.df_maps.specs.FullMaps.{point_count};
 ghost use Rattle.df_kramer_mesner.specs.OrbitSystems.{columns_of, maps_of_problem};
 ghost use Rattle.df_correspondence.specs.Designs.{design};
-ghost use Rattle.df_design.specs.LeftBlocks.{is_after, blocks_after, IsSettled, IsMet, IsImageAfter, Begins};
+ghost use Rattle.df_design.specs.LeftBlocks.{is_after, blocks_after, IsSettled, IsPlaceFor, IsMet, IsImageAfter, Begins};
 
 use crate::reps::Reps;
 use arrayvec::ArrayVec;
@@ -22,7 +22,7 @@ use df_subsets::{Block, blocks_are_ordered, candidates_are_all};
 use std::marker::Model;
 
 /// The most blocks that are held ready.
-pub const READY: usize = 64;
+pub const READY: usize = 1024;
 
 /// The earliest blocks of those that were met, increasing.
 type Ready = ArrayVec<Block, READY>;
@@ -74,25 +74,13 @@ fn comes_late(ready: &[Block], block: &Block) -> bool
     ready.len() == READY && is_before(&ready[READY - 1], block)
 }
 
-// The first place whose block doesn't come before this one, or the number of places.
-fn place_of(ready: &[Block], block: &Block) -> usize
-    ensures within { result ≤ length ready.now }
-    ensures earlier { (j : ℕ) → j < result → before (slice_index_or ready.now j []) block.now ≡ true }
-    ensures there { result < length ready.now → before (slice_index_or ready.now result []) block.now ≡ false }
+// Finds the place of a block, or else the place where it may be put.
+fn place_of(ready: &[Block], block: &Block) -> Result<usize, usize>
+    requires { IsSorted before ready.now }
+    ensures { MatchResult result (λ place. In ready.now block.now) (IsPlaceFor ready.now block.now) }
 {
-    for (place, kept) in ready.iter().enumerate() {
-        if !is_before(kept, block) {
-            return place;
-        }
-    }
-    ready.len()
-}
-
-// Whether the block at a place, which isn't before this one, is this one.
-fn stands_at(ready: &[Block], place: usize, block: &Block) -> bool
-    ensures { result ≡ (nat_lt place (length ready.now) && not (before block.now (slice_index_or ready.now place []))) }
-{
-    place < ready.len() && !is_before(block, &ready[place])
+    blocks_are_ordered();
+    ready.binary_search(block)
 }
 
 // Holds a block ready, if it is one of the earliest.
@@ -104,10 +92,9 @@ fn meet(ready: &mut Ready, block: Block)
     if comes_late(ready.as_slice(), &block) {
         return;
     }
-    let place = place_of(ready.as_slice(), &block);
-    if stands_at(ready.as_slice(), place, &block) {
+    let Err(place) = place_of(ready.as_slice(), &block) else {
         return;
-    }
+    };
     if ready.is_full() {
         ready.pop();
     }
@@ -166,7 +153,7 @@ impl<'d> Blocks<'d> {
             images,
             chosen,
             last: None,
-            ready: ArrayVec::new(),
+            ready: earliest_after(matrix, images, chosen, &None),
             place: 0,
         }
     }
@@ -177,17 +164,13 @@ impl<'d> Blocks<'d> {
     {
         candidates_are_all();
         blocks_are_ordered();
-        if let Some(block) = self.ready.as_slice().get(self.place) {
-            let block = *block;
-            self.place += 1;
-            self.last = Some(block);
-            return Some(block);
-        }
-        let ready = earliest_after(self.matrix, self.images, self.chosen, &self.last);
-        let block = *ready.as_slice().first()?;
-        self.ready = ready;
-        self.place = 1;
+        let block = *self.ready.as_slice().get(self.place)?;
         self.last = Some(block);
+        self.place += 1;
+        if self.place == READY {
+            self.ready = earliest_after(self.matrix, self.images, self.chosen, &self.last);
+            self.place = 0;
+        }
         Some(block)
     }
 }

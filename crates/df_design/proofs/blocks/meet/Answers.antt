@@ -1,10 +1,12 @@
-use Rattle.std.proofs.Common.{◌≡◌, ◌<◌, ◌≤◌, ◌-◌, ◌+◌, ◌&&◌, ◌++◌, ◌∷◌, [], ℕ, List, true, false, not, eqb, ltb, eqb-true, length, get_or, take, drop, ap, sym, subst, ◌∙◌, arith}
+use Rattle.std.proofs.Common.{◌≡◌, ◌<◌, ◌-◌, ◌+◌, ◌&&◌, ◌++◌, ◌∷◌, [], ℕ, List, true, false, eqb, eqb-true, length, get_or, take, drop, ap, sym, subst, ◌∙◌, arith}
 use Rattle.std.proofs.lemmas.Bool.{eqb-false}
 use Rattle.std.proofs.lemmas.List.{length-take}
+use Rattle.df_lists.specs.Membership.{In}
+use Rattle.df_lists.specs.Orders.{IsSorted}
 use Rattle.df_subsets.specs.Blocks.{before}
 use Rattle.df_design.specs.declared.blocks.TheConstants.{READY}
-use Rattle.df_design.specs.LeftBlocks.{IsMet}
-use Rattle.df_design.proofs.ReadyBlocks.{met_late, met_there, met_room, met_full, place_early}
+use Rattle.df_design.specs.LeftBlocks.{IsPlaceFor, IsMet}
+use Rattle.df_design.proofs.ReadyBlocks.{met_late, met_before, met_room, met_full, place_early}
 use Rattle.df_design.proofs.blocks.meet.Goals as goal
 use Rattle.df_design.proofs.blocks.meet.Goals.{then-is_full, else-is_full}
 
@@ -14,36 +16,34 @@ returns-then-comes_late c =
     let late = subst (λ (l : List (List ℕ)). (eqb (length l) READY && before (get_or l (READY - 1) []) y) ≡ true) c.as_slice.ensures.value (sym c.comes_late.ensures ∙ c.if-comes_late.true) in
     met_late c.blocks_are_ordered.ensures.order c.args.ready.now.items y c.requires late
 
-pub returns-then-stands_at : goal.returns-then-stands_at
-returns-then-stands_at c =
+pub place_of-requires : goal.place_of-requires
+place_of-requires c = subst (IsSorted before) (sym c.as_slice-2.ensures.value) c.requires
+
+pub returns-in_default : goal.returns-in_default
+returns-in_default c =
     let y = c.args.block in
-    let place = c.place_of-place.result in
-    let there = subst (λ (l : List (List ℕ)). place < length l → before (get_or l place []) y ≡ false) c.as_slice-2.ensures.value c.place_of-place.ensures.there in
-    let stands = subst (λ (l : List (List ℕ)). (ltb place (length l) && not (before y (get_or l place []))) ≡ true) c.as_slice-3.ensures.value (sym c.stands_at.ensures ∙ c.if-stands_at.true) in
-    met_there c.blocks_are_ordered.ensures.order c.args.ready.now.items place y c.requires there stands
+    met_before c.blocks_are_ordered.ensures.order c.args.ready.now.items y c.requires (subst (λ (l : List (List ℕ)). In l y) c.as_slice-2.ensures.value c.in_default.ensures)
 
 pub returns : goal.returns
 returns c =
     let O = c.blocks_are_ordered.ensures.order in
     let xs = c.args.ready.now.items in
     let y = c.args.block in
-    let place = c.place_of-place.result in
+    let place = c.in-Err.place in
     let soon = subst (λ (l : List (List ℕ)). (eqb (length l) READY && before (get_or l (READY - 1) []) y) ≡ false) c.as_slice.ensures.value (sym c.comes_late.ensures ∙ c.if-comes_late.false) in
-    let low = subst (λ (l : List (List ℕ)). (j : ℕ) → j < place → before (get_or l j []) y ≡ true) c.as_slice-2.ensures.value c.place_of-place.ensures.earlier in
-    let within = subst (λ (l : List (List ℕ)). place ≤ length l) c.as_slice-2.ensures.value c.place_of-place.ensures.within in
-    let nowhere = subst (λ (l : List (List ℕ)). (ltb place (length l) && not (before y (get_or l place []))) ≡ false) c.as_slice-3.ensures.value (sym c.stands_at.ensures ∙ c.if-stands_at.false) in
-    let put = λ (l : List (List ℕ)). take place l ++ y ∷ drop place l in
+    let fit = subst (λ (l : List (List ℕ)). IsPlaceFor l y place) c.as_slice-2.ensures.value c.in-Err.ensures in
     let items = c.insert.ensures.items in
+    let put = λ (l : List (List ℕ)). take place l ++ y ∷ drop place l in
     elim c.if-is_full.branch [
       | then-is_full w ↦
           let full = eqb-true (length xs) READY (sym c.is_full.ensures.value ∙ w.if-is_full.true) in
           let ys = w.pop.new.self.items in
           let shorter : length ys + 1 ≡ length xs = omega (arith, ap length w.pop.ensures.rest, length-take (length xs - 1) xs, full) in
-          let early = place_early O xs place y within full low soon in
+          let early = place_early O xs place y full fit soon in
           subst (IsMet xs y) (sym (items ∙ ap put (ap (λ v. v.items) w.ready-is)))
-          (met_full O xs ys w.pop.result place y c.requires full w.pop.ensures.items shorter (omega (arith, early, shorter, full)) low nowhere)
+          (met_full O xs ys w.pop.result place y c.requires full w.pop.ensures.items shorter (omega (arith, early, shorter, full)) fit)
       | else-is_full w ↦
           let unlike = eqb-false (length xs) READY (sym c.is_full.ensures.value ∙ w.if-is_full.false) in
           let room : length xs < READY = omega (arith, c.is_full.ensures.fits, unlike) in
-          subst (IsMet xs y) (sym (items ∙ ap put (ap (λ v. v.items) w.ready-is))) (met_room O xs place y c.requires room low nowhere)
+          subst (IsMet xs y) (sym (items ∙ ap put (ap (λ v. v.items) w.ready-is))) (met_room O xs place y c.requires room fit)
     ]
