@@ -2,9 +2,10 @@
 //! It stands on df_io for lines, tokens and numbers, on df_walk for entries and paths as words, on
 //! df_system for the type of paths, and on df_lang for problems and the texts of points and blocks.
 //! The crates above write lines by the `put_` calls, with the laws `.._is_short` for their room, and
-//! read them by `LineJudge`, `read_entry`, `read_path` and `read_design`; clauses cite
-//! `specs/Entries`, `specs/Paths`, `specs/Designs` and `specs/Judging`. That what is written is read
-//! back are the laws `.._read_back`.
+//! read them by `LineJudge`, `read_entry`, `read_path` and `read_design`, and a whole one that ended
+//! spent by `read_spent`; clauses cite `specs/Entries`, `specs/Paths`, `specs/Designs`,
+//! `specs/Judging`, `specs/Dossiers` and `specs/Spent`. That what is written is read back are the
+//! laws `.._read_back`.
 #![tactic(auto)]
 
 mod designs;
@@ -40,9 +41,9 @@ pub use spent::{Spent, SpentError, read_spent};
 #[cfg(test)]
 mod design_tests;
 #[cfg(test)]
-mod round_tests;
-#[cfg(test)]
 mod dossier_tests;
+#[cfg(test)]
+mod round_tests;
 #[cfg(test)]
 mod tests;
 

@@ -27,7 +27,7 @@ impl Model for SourceText {
 }
 
 impl SourceText {
-    // No line.
+    /// No line.
     pub fn new(alloc: Global) -> SourceText
         ensures { result ≡ [] }
     {
@@ -36,7 +36,7 @@ impl SourceText {
         }
     }
 
-    // One line more.
+    /// One line more.
     pub fn with_line(self, line: &[u8]) -> Result<SourceText, OutOfMemory>
         requires { Lacks is_line_feed line.now }
         ensures { IfOk result (λ text. text ≡ self ++ line.now ∷ []) }
@@ -47,7 +47,7 @@ impl SourceText {
         Ok(SourceText { bytes })
     }
 
-    // What the lines state.
+    /// What the lines state.
     pub fn parse(&self, alloc: Global) -> Result<Problem, ParseError>
         ensures { ParsesLines self.now result }
     {

@@ -43,7 +43,7 @@ pub enum Stage {
 }
 
 impl Stage {
-    // Takes the line of this number.
+    /// Takes the line of this number.
     pub fn line(self, alloc: Global, number: u64, line: &[u8]) -> Result<Stage, SpentError>
         requires plain { Lacks is_line_feed line.now }
         requires place { StandsAt self number }
@@ -60,7 +60,7 @@ impl Stage {
         }
     }
 
-    // The input ends.
+    /// The input ends.
     pub fn end(self) -> Result<Spent, SpentError>
         ensures { (number : ℕ) → StandsAt self number → GivesSpent (rest_from self number []) result }
     {

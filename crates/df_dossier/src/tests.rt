@@ -237,12 +237,6 @@ fn lines_are_judged(rt: HostRuntime) -> Result<(), Fail> {
             b"dossier 2\nsource 1\ng\nfrom 0\nsettled\ndesign x\nend spent designs 1 nodes 1 next\ndossier 1\n",
             b"2csfedS1H",
         ),
-        (b"dossier 01\n\n", b"HHH"),
-        (b"dossier 3\n", b"HH"),
-        (b"dossier 1 1\n", b"HH"),
-        (b"dossier 1\nsource 0\n", b"1HH"),
-        (b"dossier 1\nsource 2\ng\n", b"1csH"),
-        (b"dossier 1\nsource 1\ng\nbranch 0\n", b"1csHH"),
         (
             b"dossier 1\nsource 1\ng\nfrom 0\nend finished designs 0\n",
             b"1csfNN",
@@ -259,6 +253,30 @@ fn lines_are_judged(rt: HostRuntime) -> Result<(), Fail> {
             b"dossier 1\nsource 1\ng\nfrom 0\nend finished designs 0 nodes 0\nbranch 0",
             b"1csfFHH",
         ),
+        (
+            b" dossier\t1 # x\r\n\r\n\tsource 003\r\n# 1\r\n \r\n g\r\n from\t0\r\n \tsettled\r\n",
+            b"1-csssfeN",
+        ),
+        (
+            b"dossier 1\nsource 1\n\nfrom 0\nend finished designs 0 nodes 0\n# x\n\ndossier 2\nsource 1\n\nfrom 0\ncut 1 0\nend spent designs 0 nodes 0 next 0\n\t\n",
+            b"1csfF--2csfeS-.",
+        ),
+    ] {
+        let letters = letters(rt.alloc(), text)?;
+        assert_eq!(rt; letters.as_slice(), read);
+    }
+    Ok(())
+}
+
+#[test]
+fn heads_are_judged(rt: HostRuntime) -> Result<(), Fail> {
+    for (text, read) in [
+        (b"dossier 01\n\n".as_slice(), b"HHH".as_slice()),
+        (b"dossier 3\n", b"HH"),
+        (b"dossier 1 1\n", b"HH"),
+        (b"dossier 1\nsource 0\n", b"1HH"),
+        (b"dossier 1\nsource 2\ng\n", b"1csH"),
+        (b"dossier 1\nsource 1\ng\nbranch 0\n", b"1csHH"),
         (b"dossier\n", b"HH"),
         (b"Dossier 1\n", b"HH"),
         (b"dossier 1x\n", b"HH"),
@@ -271,14 +289,6 @@ fn lines_are_judged(rt: HostRuntime) -> Result<(), Fail> {
         (b"dossier 2\nsource 18446744073709551615\n\n# x\n", b"2cssH"),
         (b"dossier 2\n\n# x\nsource 2\n\n# x", b"2--cssH"),
         (b"dossier 1\nsource 1\n\nFrom 0\n", b"1csHH"),
-        (
-            b" dossier\t1 # x\r\n\r\n\tsource 003\r\n# 1\r\n \r\n g\r\n from\t0\r\n \tsettled\r\n",
-            b"1-csssfeN",
-        ),
-        (
-            b"dossier 1\nsource 1\n\nfrom 0\nend finished designs 0 nodes 0\n# x\n\ndossier 2\nsource 1\n\nfrom 0\ncut 1 0\nend spent designs 0 nodes 0 next 0\n\t\n",
-            b"1csfF--2csfeS-.",
-        ),
     ] {
         let letters = letters(rt.alloc(), text)?;
         assert_eq!(rt; letters.as_slice(), read);

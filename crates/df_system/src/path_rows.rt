@@ -308,7 +308,10 @@ impl<'m> PathRows<'m> {
     {
         let now = self.rows.get(row as usize);
         match (now.target as u64).checked_sub(now.taken) {
-            Some(need) => self.deadlines.short(self.system, self.rules, row, need as u32) <= from,
+            Some(need) => self
+                .deadlines
+                .short(self.system, self.rules, row, need as u32)
+                <= from,
             None => false,
         }
     }
