@@ -10,7 +10,8 @@ past_rows : (n row : ℕ) (column : List Cell) → n ≤ row → ((k : ℕ) (d :
 past_rows n row [] after h = refl
 past_rows n row (cell ∷ column) after h =
     let other = ne_eqb cell.row row (λ e. let low = h 0 cell (omega arith) in absurd (omega arith)) in
-    rw other (past_rows n row column after (λ k d l. h (suc k) d (omega arith)))
+    let rest = past_rows n row column after (λ k d l. h (suc k) d (omega arith)) in
+    rw other (omega (arith, rest))
 
 pub bounded : (s : System) (columns most : ℕ) → IsSystem s → length s.columns ≤ columns → ((row : ℕ) → row < length s.targets → target s row ≤ most) → ((row column : ℕ) → column < length s.columns → row < length s.targets → entry s row column ≤ most) → IsBounded s columns most most
 bounded s columns most ok few targets entries_low = record {
