@@ -6,3 +6,4 @@ pub mod CutSums
 pub mod RowFaults
 pub mod LogMoves
 pub mod SignedSums
+pub mod BoundedSystems

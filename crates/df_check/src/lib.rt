@@ -13,6 +13,8 @@ pub mod checker;
 mod cuts;
 mod judge;
 pub mod laws;
+#[cfg(test)]
+mod tests;
 
 pub use checker::SystemChecker;
 pub use df_walk::{CutRow, Entry};
