@@ -35,7 +35,10 @@ impl Numbers {
         let mut rows = ArrayVec::new();
         let most = self.next() % 16 + 1;
         let mut row = self.place();
-        while rows.len() < 16 && (rows.len() as u64) < most {
+        for _ in 0..most {
+            if rows.len() >= 16 {
+                break;
+            }
             let size = (self.next() % 1000 + 1) as i16;
             let weight = if self.next() % 2 == 0 { size } else { -size };
             rows.push(CutRow { weight, row });
@@ -127,7 +130,10 @@ fn put_path(alloc: Global, buf: &mut LineBuf, numbers: &mut Numbers) -> Option<(
     }
     put_path_start(buf, length);
     let mut next = numbers.place();
-    while next < length && buf.len() + PATH_BYTES <= 1024 && columns.len() < 200 {
+    for _ in 0..200u32 {
+        if next >= length || buf.len() + PATH_BYTES > 1024 {
+            break;
+        }
         path_piece_is_short(next);
         put_path_column(buf, next);
         columns.push(next).ok()?;
