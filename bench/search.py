@@ -1,9 +1,9 @@
 #!/usr/bin/env python3
 """Measures how long a search takes for each node and for each cell that it changes, and prints tables of nanoseconds.
 
-search.py [--program PROGRAM] [--race RACE] [--maker MAKER] [--beside OTHER] [random | matrices]
+search.py [--program PROGRAM] [--race RACE] [--maker MAKER] [--beside OTHER] [random | matrices | greatest]
 
-PROGRAM and RACE are built by the command rt in folders of their own where they aren't given. With no last word both tables are made.
+PROGRAM and RACE are built by the command rt in folders of their own where they aren't given. With no last word all tables are made.
 
 `random`: the systems are made by numbers that look random: each column has the same number of cells, with entries from 1 to 3
 that are multiplied by a factor in the second half of the columns, and each target is half the sum of its row. Of each the first
@@ -14,8 +14,12 @@ prints the number of nodes, entries and changed cells, which are those of the wa
 `matrices`: orbit matrices of difference families are searched by `next`, by the rules with divisors. MAKER prints them by its
 command `matrix`; it is crates/df_main/out/df_main where it isn't given. RACE reads a system and measures the search itself, with
 its making: the least of three runs. OTHER is another program with a command `solve`, which is timed as a whole beside it.
+
+`greatest`: systems of 16 million cells, of 65,536 columns, or of 12,224 rows, that look random. RACE measures three things apart:
+the system as it is made of its entries, the search as it is made of the system, and the walk, by `next` and the rules with divisors.
+The least of three runs.
 """
-import argparse, pathlib, shutil, subprocess, sys, tempfile, time
+import argparse, pathlib, random, shutil, subprocess, sys, tempfile, time
 
 import crates
 
@@ -43,6 +47,15 @@ SYSTEMS = (
 )
 
 BUDGET = 1000000
+
+GREATEST = (
+    # rows, columns, cells of a column, least and greatest entry, target of each row: 0 for half of the row's sum
+    (256, 65536, 3, 1, 1, 1),
+    (256, 65536, 3, 1, 3, 0),
+    (256, 65536, 256, 1, 3, 0),
+    (12224, 1372, 3, 1, 1, 1),
+    (12224, 1372, 12224, 1, 3, 0),
+)
 
 PROGRAM = '''//! Walks the first nodes of a system: searches ROWS COLUMNS CELLS FACTOR RULES BUDGET HOW, where RULES is 0 or 1, and HOW is 0 for `advance` and 1 for `next`.
 #![tactic(auto)]
@@ -219,7 +232,8 @@ ghosts-next g a = record { name = a.blank.name; parts = a.blank.parts }
 ''',
 }
 
-RACE = '''//! Walks a system on standard input, with a budget where one is given, and prints how many solutions and nodes it passed, and how long that took.
+RACE = '''//! Walks a system on standard input, with a budget where one is given, and prints how many solutions and nodes it passed, and how long that took with the making of the search.
+//! Then how long it takes to make a search alone, and how long it took to make the system.
 //! The input is numbers: the number of rows, a target for each, and the entries, column after column.
 #![tactic(auto)]
 
@@ -316,10 +330,19 @@ fn main(rt: HostRuntime) -> io::Result<()> {
     let Ok(numbers) = numbers(rt.alloc(), &bytes) else {
         return Ok(());
     };
+    let begun = Instant::now(&rt)?;
     let Some(system) = system_of(rt.alloc(), &numbers) else {
         println!(rt; "no system")?;
         return Ok(());
     };
+    let read = begun.elapsed(&rt)?;
+    let mut none = 0;
+    let made = Instant::now(&rt)?;
+    let Some(_) = counted::<Brand>(rt.alloc(), &system, &mut none, Blank::new(1)) else {
+        println!(rt; "no memory")?;
+        return Ok(());
+    };
+    let making = made.elapsed(&rt)?;
     let start = budget_of(&rt);
     let mut budget = start;
     let before = Instant::now(&rt)?;
@@ -329,7 +352,7 @@ fn main(rt: HostRuntime) -> io::Result<()> {
     };
     let took = before.elapsed(&rt)?;
     let nodes = start.wrapping_sub(budget);
-    println!(rt; "rows {} columns {} solutions {solutions} nodes {nodes} us {}", system.rows(), system.columns(), took.as_micros())?;
+    println!(rt; "rows {} columns {} solutions {solutions} nodes {nodes} us {} making {} system {}", system.rows(), system.columns(), took.as_micros(), making.as_micros(), read.as_micros())?;
     Ok(())
 }
 '''
@@ -541,21 +564,53 @@ def matrices(race, maker, other):
         print(f"{name:44} {rows:5} {columns:7} {solutions:9} {nodes:10} {taken:8.3f} {taken / max(nodes, 1) * 1e9:8.2f} {also}", flush=True)
 
 
+def great_system(rows, columns, cells, low, high, target):
+    """A system as numbers, that looks random."""
+    draw = random.Random(rows * columns + cells)
+    sums, lines = [0] * rows, []
+    for _ in range(columns):
+        entries = [0] * rows
+        places = range(rows) if cells == rows else draw.sample(range(rows), cells)
+        for place, entry in zip(places, draw.choices(range(low, high + 1), k=cells)):
+            entries[place] = entry
+            sums[place] += entry
+        lines.append(" ".join(map(str, entries)))
+    targets = [str(target or total // 2) for total in sums]
+    return " ".join([str(rows), *targets, *lines]) + "\n"
+
+
+def greatest(race):
+    print(f"{'rows':>5} {'columns':>7} {'cells':>8} {'system s':>8} {'ns/cell':>7} {'search s':>8} {'ns/cell':>7} {'nodes':>8} {'walk s':>8} {'ns/node':>8}")
+    for rows, columns, width, low, high, target in GREATEST:
+        width = min(width, rows)
+        numbers = great_system(rows, columns, width, low, high, target)
+        runs = [subprocess.run([race, str(BUDGET)], input=numbers.encode(), check=True, capture_output=True).stdout.split() for _ in range(3)]
+        nodes = int(runs[0][7])
+        making, system = (min(int(run[place]) for run in runs) / 1e6 for place in (11, 13))
+        walk = max(0, min(int(run[9]) - int(run[11]) for run in runs)) / 1e6
+        cells = columns * width
+        print(f"{rows:5} {columns:7} {cells:8} {system:8.3f} {system / cells * 1e9:7.1f} {making:8.3f} {making / cells * 1e9:7.1f} {nodes:8} {walk:8.3f} {walk / max(nodes, 1) * 1e9:8.1f}", flush=True)
+
+
 def main():
     parser = argparse.ArgumentParser()
     for word in ("program", "race", "maker", "beside"):
         parser.add_argument(f"--{word}", type=pathlib.Path)
-    parser.add_argument("table", nargs="?", choices=("random", "matrices"))
+    parser.add_argument("table", nargs="?", choices=("random", "matrices", "greatest"))
     given = parser.parse_args()
     with tempfile.TemporaryDirectory() as name:
         folder = pathlib.Path(name)
-        if given.table != "matrices":
+        if given.table in (None, "random"):
             program = given.program or build(folder / "random", "searches", CRATES, PROGRAM, PROOFS, "0")
             table(program.resolve(), build_loops(folder))
-        if given.table != "random":
+        if given.table == "random":
+            return
+        race = (given.race or build(folder / "race", "race", ["df_io", *CRATES], RACE, RACE_PROOFS, "0")).resolve()
+        if given.table in (None, "matrices"):
             maker = given.maker or crates.TOP / "crates/df_main/out/df_main"
-            race = given.race or build(folder / "race", "race", ["df_io", *CRATES], RACE, RACE_PROOFS, "0")
-            matrices(race.resolve(), maker.resolve(), given.beside and given.beside.resolve())
+            matrices(race, maker.resolve(), given.beside and given.beside.resolve())
+        if given.table in (None, "greatest"):
+            greatest(race)
 
 
 if __name__ == "__main__":
