@@ -20,7 +20,7 @@ PROBLEMS = (
     ("2-(13,3,1) cyclic", "group 13/k 3/lambda 1", 4, 20000),
     ("2-(37,4,1) cyclic", "group 37/k 4/lambda 1", 200, 100),
     ("2-(64,4,1), 2 2 2 2 2 2", "group 2 2 2 2 2 2/mult 1/k 4/lambda 1", 50, 20),
-    ("2-(64,4,1), short orbits", "group 4 4 4/k 4/lambda 1", 50, 20),
+    ("2-(64,4,1), short orbits", "group 4 4 4/k 4/lambda 1", 50, 400),
     ("2-(21,5,1) cyclic", "group 21/k 5/lambda 1", 2, 20000),
     # more blocks than are held ready
     ("2-(25,3,23), all triples", "group 25/k 3/lambda 23", 1, 200),
