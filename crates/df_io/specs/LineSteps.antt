@@ -1,9 +1,8 @@
 -- What the steps of a reading line by line do.
 use Rattle.std.specs.declared.option.Option.{Option}
 use Rattle.std.specs.Io.KnownBytes.{Consumes, IsAtEnd}
-use Rattle.std.specs.Prelude.{◌≡◌, ℕ, ◌+◌, ◌<◌, ◌≤◌, Bool, List, [], ◌∷◌, ◌++◌, length, Result, Ok, Err, None, Some, IsSome}
-use Rattle.df_io.specs.declared.bytes.ReadError.{ReadError}
-use Rattle.df_io.specs.declared.bytes.ReadError.TheVariants.{ReadFault, TooLong, OutOfMemory}
+use Rattle.std.specs.Prelude.{◌≡◌, ℕ, ◌+◌, ◌<◌, List, [], ◌++◌, length, Ok, Err, None, Some, IsSome}
+use Rattle.df_io.specs.declared.bytes.ReadError.TheVariants.{OutOfMemory}
 use Rattle.df_io.specs.Joined.{Lacks, is_line_feed}
 use Rattle.df_io.specs.Streams.{Stream, Reads, line_end, to_come}
 

@@ -3,7 +3,7 @@
 //! It stands on `arrayvec`, for buffers of a fixed size, and on `memchr`, for the search for line feeds.
 //! The crates above may use each name below: a clause sees a source as the bytes it has left, a sink as the bytes it
 //! has taken, and a text as the lists of `specs/Lines` and `specs/Number`.
-//! Laws for the rooms above: proofs/Joining, proofs/NumbersBack, proofs/Writing.
+//! Laws for the rooms above: proofs/Joining, proofs/NumbersBack, proofs/StreamLaws, proofs/Writing.
 #![tactic(auto)]
 
 mod ahead;
