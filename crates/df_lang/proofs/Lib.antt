@@ -1,3 +1,4 @@
+pub mod BlocksBack
 pub mod CanonicalShort
 pub mod EachAfter
 pub mod EachMember
