@@ -21,7 +21,7 @@ pub struct LineSource<'s, S: Source> {
 impl<'s, S: Source> LineSource<'s, S> {
     ghost use Rattle.std.specs.Prelude.{◌≡◌, ◌≤◌, IfOk, IfErr, OnOk, IsErrOf, IsSome, Ok, Err, Some, None, true, false};
     ghost use Rattle.std.specs.Io.KnownBytes.{IsAtEnd};
-    ghost use Rattle.df_io.specs.Streams.{Reads, IsNextLine, IsNoLine, new_stream};
+    ghost use Rattle.df_io.specs.Streams.{Reads, IsNextLine, IsNoLine, IsStream, new_stream};
 
     /// All lines of the input, from its first byte on, of which at most `limit` bytes may come. `limit` is at most
     /// `MOST_BYTES`.
@@ -57,6 +57,14 @@ impl<'s, S: Source> LineSource<'s, S> {
         ensures refused { IfErr result (λ e. self.new.reading.ended ≡ Some (Err e)) }
     {
         self.reading.next_line(self.input)
+    }
+
+    /// A law of each reading: what was taken of the source keeps to the limit, and to `PIECE` bytes ahead of the lines.
+    /// It does nothing.
+    pub fn keeps_limits(&self)
+        ensures { IsStream self.now.reading }
+    {
+        self.reading.keeps_limits();
     }
 
     /// The bytes of the line that `next_line` read last.

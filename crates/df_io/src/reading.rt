@@ -1,7 +1,7 @@
 // A reading line by line, of a source that is handed to each call.
 ghost use Rattle.std.specs.Prelude.{◌≡◌, ◌≤◌, [], ◌∷◌, ◌++◌, IfOk, IfErr, OnOk, IsErrOf, IsSome, Ok, Err, Some, None, true, false};
 ghost use Rattle.std.specs.Io.KnownBytes.{IsAtEnd};
-ghost use Rattle.df_io.specs.Streams.{Reads, IsNextLine, IsNoLine, new_stream};
+ghost use Rattle.df_io.specs.Streams.{Reads, IsNextLine, IsNoLine, IsStream, new_stream};
 ghost use Rattle.df_io.specs.LineSteps.{Finds, Fills};
 
 use crate::OutOfMemory;
@@ -64,6 +64,11 @@ impl Reading {
             ended: None,
         })
     }
+
+    /// What was taken keeps to the limits of a reading.
+    pub fn keeps_limits(&self)
+        ensures { IsStream self.now }
+    {}
 
     /// Reads the next line, where one is left.
     pub fn next_line<S: Source>(&mut self, input: &mut S) -> Result<bool, ReadError>
