@@ -9,6 +9,7 @@ use Rattle.df_walk.specs.Solutions.{solutions}
 use Rattle.df_walk.specs.Walks.{solutions_in, nodes_in}
 use Rattle.df_walk.specs.Paths.{not_before, rest, load, IsNode}
 use Rattle.df_walk.specs.Remains.{IsStart}
+use Rattle.df_walk.proofs.RestSolutions.{rest_all}
 use Rattle.df_runs.specs.Runs.{Run, rest_at, load_at, EndsAt, IsRunFrom}
 use Rattle.df_lang.specs.Problems.{Stated}
 use Rattle.df_kramer_mesner.specs.OrbitSystems.{orbit_system}
@@ -18,14 +19,6 @@ use Rattle.df_tell.specs.Run.{head_text, source_text, from_text, design_lines, e
 use Rattle.df_tell.specs.declared.run.Shown.{Shown}
 use Rattle.df_tell.proofs.SilentRuns.{silent_lines}
 use Rattle.df_run.specs.Headline.{designs_in, all_nodes, designs_text}
-
--- nothing is before the empty path
-rest_all : (S : System) → rest S [] ≡ solutions S
-rest_all S = keep (solutions S)
-  where
-    keep : (xs : List (List Bool)) → filter (not_before []) xs ≡ xs
-    keep [] = refl
-    keep (x ∷ xs) = ap (λ l. x ∷ l) (keep xs)
 
 -- a run may begin at the empty path
 pub at_start : (S : System) → IsStart Divisor S []

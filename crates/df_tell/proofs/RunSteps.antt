@@ -14,9 +14,8 @@ use Rattle.df_walk.specs.Solutions.{yes_vector}
 use Rattle.df_walk.specs.Walks.{Step, decided, solution_of, solutions_in, node_of, nodes_in}
 use Rattle.df_walk.specs.Paths.{is_node}
 use Rattle.df_runs.specs.Runs.{run_over, run_of, then_run, IsCounted}
-use Rattle.df_runs.proofs.StepLists.{all_front}
-use Rattle.df_runs.proofs.BudgetRuns.{run_after}
-use Rattle.df_runs.proofs.WalkRuns.{steps-counted}
+use Rattle.df_lists.proofs.MemberLaws.{all_front}
+use Rattle.df_runs.proofs.CountedSteps.{run_after, steps-counted}
 use Rattle.df_search.specs.Searches.{Searching, StandsBefore, Passes, Gives, Finds}
 use Rattle.df_lang.specs.Problems.{Stated}
 use Rattle.df_kramer_mesner.specs.OrbitSystems.{orbit_system}
