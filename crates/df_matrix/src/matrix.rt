@@ -20,11 +20,11 @@ use df_system::System;
 use std::alloc::{AllocError, Global};
 use std::marker::Model;
 
-/// The most columns of an orbit matrix.
-pub const MOST_COLUMNS: u64 = 65_536;
+/// The most columns of an orbit matrix: those of a system.
+pub const MOST_COLUMNS: u64 = df_system::MOST_COLUMNS as u64;
 
-/// The most rows times columns of an orbit matrix of version 1.
-pub const MOST_ENTRIES: u64 = 16_777_216;
+/// The most rows times columns of an orbit matrix of version 1: the entries of a system.
+pub const MOST_ENTRIES: u64 = df_system::MOST_ENTRIES as u64;
 
 /// Why there is no orbit matrix. The limits are judged in the order of the first three; `TooManySummed` stands in the place of `TooManySubsets` for a source of version 2.
 #[derive(Clone, Copy, Debug, PartialEq, Eq)]
