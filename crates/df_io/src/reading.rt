@@ -68,11 +68,6 @@ impl Reading {
         let _number = self.number;
     }
 
-    /// What was taken keeps to the limits of a reading.
-    pub fn keeps_limits(&self)
-        ensures { IsStream self.now }
-    {}
-
     /// Reads the next line, where one is left.
     pub fn next_line<S: Source>(&mut self, input: &mut S) -> Result<bool, ReadError>
         ensures reads { Reads S.left S.faults self.old self.new input.old input.new }
