@@ -11,3 +11,7 @@ pub mod PathTests
 pub mod SpentTexts
 pub mod EndsBack
 pub mod LinesShort
+pub mod LinesClean
+pub mod DesignsBack
+pub mod TextsBack
+pub mod RunPaths

@@ -6,7 +6,10 @@ pub mod DesignSteps
 pub mod Reads
 pub mod Judging
 pub mod RoundTrips
+pub mod DesignsBack
 pub mod Dossiers
 pub mod Sources
 pub mod Spent
 pub mod DossierTexts
+pub mod TextsBack
+pub mod RunPaths
