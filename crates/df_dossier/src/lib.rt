@@ -35,7 +35,8 @@ pub use lengths::{
 pub use numbers::{MOST_COUNT, MOST_NUMBER};
 pub use paths::{PathRead, read_path};
 pub use put::{
-    put_design_block, put_design_start, put_end, put_entry, put_path_column, put_path_start,
+    put_branch, put_design_block, put_design_start, put_end, put_entry, put_over, put_path_column,
+    put_path_start, put_residue, put_settled, put_under,
 };
 pub use spent::{Spent, SpentError, read_spent};
 
