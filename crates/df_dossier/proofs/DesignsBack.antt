@@ -1,18 +1,18 @@
 -- Design lines, read back.
-use Rattle.std.proofs.Common.{◌≡◌, ℕ, ◌+◌, ◌<◌, ◌≤◌, Bool, true, false, ◌&&◌, cond, leb, zero, suc, List, [], ◌∷◌, ◌++◌, length, map, Some, None, option_map, codes, bytes_eq, refl, sym, ap, ◌∙◌, arith, tests, append-nil, append_assoc, All, eqb, eqb-true}
+use Rattle.std.proofs.Common.{◌≡◌, ℕ, ◌+◌, ◌<◌, Bool, true, false, cond, leb, zero, suc, List, [], ◌∷◌, ◌++◌, length, map, Some, None, codes, bytes_eq, refl, sym, ap, ◌∙◌, arith, tests, append-nil, All, eqb, eqb-true}
 use Rattle.std.proofs.lemmas.Bool.{ne_eqb}
 use Rattle.std.specs.Prelude.{◌==◌}
 use Rattle.std.specs.List.{slice_split}
 use Rattle.std.proofs.lemmas.Slice.Eq.{bytes_eq-Decides}
 use Rattle.std.proofs.lemmas.List.Splits.{slice_split_at, slice_split_none}
 use Rattle.df_io.specs.Lines.{tokens_of}
-use Rattle.df_io.specs.Joined.{Each, Lacks, IsToken, spaced}
+use Rattle.df_io.specs.Joined.{Each, IsToken, spaced}
 use Rattle.df_io.proofs.Joining.{tokens_back}
-use Rattle.df_lists.specs.NumberSets.{has_member, IsSet, Rises}
+use Rattle.df_lists.specs.NumberSets.{has_member, Rises}
 use Rattle.df_lang.specs.Problems.{Stated, IsStated, IsSize, IsBlock, point_count}
 use Rattle.df_lang.specs.Values.{element_of, residues_of, fixed_point, point_of}
 use Rattle.df_lang.specs.Canonical.{point_text, block_text}
-use Rattle.df_lang.specs.RoundTrip.{PointReadsBack, BlockReadsBack, PointsReadBack}
+use Rattle.df_lang.specs.RoundTrip.{PointReadsBack, PointsReadBack}
 use Rattle.df_dossier.specs.Tokens.{◌>>?◌, values_of, after_spaces}
 use Rattle.df_dossier.specs.Designs.{before_block, block_piece, block_pieces, design_text, is_separator, rises_from, block_with, block_read, blocks_read, design_read, design_of}
 use Rattle.df_dossier.specs.DesignsBack.{DesignsReadBack}

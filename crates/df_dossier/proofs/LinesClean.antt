@@ -1,5 +1,5 @@
 -- The lines of a dossier have no line feeds.
-use Rattle.std.proofs.Common.{◌≡◌, ℕ, zero, suc, ◌+◌, ◌<◌, ◌≤◌, ◌^◌, Bool, true, false, cond, List, [], ◌∷◌, ◌++◌, length, map, ℤ, pos, negsuc, codes, decimal, refl, arith, tests, All}
+use Rattle.std.proofs.Common.{◌≡◌, ℕ, suc, ◌<◌, ◌≤◌, ◌^◌, Bool, true, false, List, [], ◌∷◌, ◌++◌, length, map, ℤ, pos, negsuc, codes, decimal, refl, arith, tests, All}
 use mathlib.Core.Logic.{inl, inr}
 use Rattle.std.specs.List.{flat_map, list_any}
 use Rattle.std.specs.Fmt.{signed_decimal}
@@ -12,7 +12,7 @@ use Rattle.df_walk.specs.declared.Rules.TheVariants.{Plain, Divisor}
 use Rattle.df_walk.specs.declared.Entry.{Entry}
 use Rattle.df_walk.specs.declared.Entry.TheVariants.{Branch, Over, Under, Settled, Residue, Cut}
 use Rattle.df_walk.specs.declared.CutRow.{CutRow}
-use Rattle.df_walk.specs.Paths.{WrittenPath, IsWritten}
+use Rattle.df_walk.specs.Paths.{WrittenPath}
 use Rattle.df_lang.specs.Problems.{Stated}
 use Rattle.df_dossier.specs.Tokens.{after_spaces}
 use Rattle.df_dossier.specs.Entries.{entry_tokens, row_tokens}

@@ -7,6 +7,7 @@ pub mod Orbits
 pub mod Refusal
 pub mod Run
 pub mod RunSteps
+pub mod RunBack
 pub mod Table
 pub mod Usage
 pub mod Verdict

@@ -7,6 +7,7 @@
 
 mod canonical;
 mod counts;
+mod laws;
 mod limits;
 mod matrix;
 mod orbits;
@@ -19,6 +20,7 @@ mod usage;
 mod verdict;
 
 pub use canonical::write_canonical;
+pub use laws::spent_texts_are_read_back;
 pub use limits::{Limit, write_limit};
 pub use matrix::write_matrix;
 pub use orbits::write_orbits;

@@ -13,11 +13,11 @@ ghost use Rattle.df_walk.specs.Solutions.{chosen_columns};
 ghost use Rattle.df_walk.specs.declared.Entry.TheVariants.{Settled};
 ghost use Rattle.df_runs.specs.Runs.{run_of};
 ghost use Rattle.df_kramer_mesner.specs.OrbitSystems.{orbit_system};
-ghost use Rattle.df_dossier.specs.Designs.{block_piece};
+ghost use Rattle.df_dossier.specs.Designs.{block_piece, block_pieces};
 ghost use Rattle.df_dossier.specs.Entries.{entry_text};
 ghost use Rattle.df_dossier.specs.Paths.{end_tokens};
 ghost use Rattle.df_tell.specs.declared.run.RunEnd.TheVariants.{Spent};
-ghost use Rattle.df_tell.specs.Run.{head_text, source_text, from_text, path_end, block_pieces, design_line, block_comment, solution_lines, step_lines, end_text, run_text, run_end, as_written, MayRun};
+ghost use Rattle.df_tell.specs.Run.{head_text, source_text, from_text, path_end, design_line, block_comment, solution_lines, step_lines, end_text, run_text, run_end, as_written, MayRun};
 ghost use Rattle.df_tell.specs.RunSteps.{columns_text, column_text, IsOf, AreCounted, run_left, Tells, stop_at, EndsOrGoesOn, IsRan};
 
 use crate::canonical::write_canonical;

@@ -1,7 +1,6 @@
 use Rattle.std.proofs.Common.{◌++◌, [], refl, ap, sym, ◌∙◌, append_assoc}
 use Rattle.df_io.proofs.Writing.{writes_nothing, writes_as, writes_then, writes_stopped_then}
-use Rattle.df_dossier.specs.Designs.{block_piece}
-use Rattle.df_tell.specs.Run.{block_pieces}
+use Rattle.df_dossier.specs.Designs.{block_piece, block_pieces}
 use Rattle.df_tell.proofs.RunTexts.{pieces_later}
 use Rattle.df_tell.proofs.run.write_pieces.Goals as goal
 

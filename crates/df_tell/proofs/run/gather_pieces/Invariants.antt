@@ -1,6 +1,6 @@
 use Rattle.std.proofs.Common.{◌≡◌, ◌++◌, List, ℕ, length, Ok}
 use Rattle.df_io.specs.Writing.{Writes}
-use Rattle.df_tell.specs.Run.{block_pieces}
+use Rattle.df_dossier.specs.Designs.{block_pieces}
 use Rattle.df_tell.proofs.run.write_pieces.Given as goal
 
 -- what is written and the blocks that are left are all
