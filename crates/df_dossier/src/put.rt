@@ -105,7 +105,10 @@ fn put_place(buf: &mut LineBuf, number: u32)
     } else if number < 100 {
         put_text(buf, &[digit(tens), digit(number % 10)]);
     } else if number < 1000 {
-        put_text(buf, &[digit(tens / 10), digit(tens % 10), digit(number % 10)]);
+        put_text(
+            buf,
+            &[digit(tens / 10), digit(tens % 10), digit(number % 10)],
+        );
     } else {
         put_number(buf, u64::from(number));
     }
