@@ -15,3 +15,4 @@ pub mod LinesClean
 pub mod DesignsBack
 pub mod TextsBack
 pub mod RunPaths
+pub mod PutPlaces

@@ -1,5 +1,5 @@
 // The lines of a dossier, or their pieces, written to a buffer without line feeds.
-ghost use Rattle.std.specs.Prelude.{◌≡◌, ◌≤◌, ◌+◌, ◌++◌, ◌∷◌, length, length as length_of, codes};
+ghost use Rattle.std.specs.Prelude.{◌≡◌, ◌≤◌, ◌<◌, ◌+◌, ◌++◌, ◌∷◌, length, length as length_of, codes};
 ghost use Rattle.std.specs.Prelude.{decimal};
 ghost use Rattle.std.specs.List.{flat_map};
 ghost use Rattle.arrayvec.specs.ArrayVec.{array_vec_len};
@@ -90,7 +90,36 @@ fn put_one(buf: &mut LineBuf, word: &[u8], number: u32)
         ≡ array_vec_len buf.old + length (word.now ++ decimal number) }
 {
     put_text(buf, word);
-    put_number(buf, u64::from(number));
+    put_place(buf, number);
+}
+
+// Appends the number of a row or a column. Most have at most three digits, which are put at once.
+fn put_place(buf: &mut LineBuf, number: u32)
+    requires { array_vec_len buf.old + length (decimal number) ≤ 1024 }
+    ensures text { buf.new.items ≡ buf.old.items ++ decimal number }
+    ensures len { array_vec_len buf.new ≡ array_vec_len buf.old + length (decimal number) }
+{
+    let tens = number / 10;
+    if number < 10 {
+        put_text(buf, &[digit(number)]);
+    } else if number < 100 {
+        put_text(buf, &[digit(tens), digit(number % 10)]);
+    } else if number < 1000 {
+        put_text(
+            buf,
+            &[digit(tens / 10), digit(tens % 10), digit(number % 10)],
+        );
+    } else {
+        put_number(buf, u64::from(number));
+    }
+}
+
+// The byte of a digit.
+fn digit(number: u32) -> u8
+    requires { number < 10 }
+    ensures { result ≡ 48 + number }
+{
+    b'0' + number as u8
 }
 
 // Appends a space and a number.
@@ -100,7 +129,7 @@ fn put_after(buf: &mut LineBuf, number: u32)
     ensures len { array_vec_len buf.new ≡ array_vec_len buf.old + length (32 ∷ decimal number) }
 {
     buf.push(b' ');
-    put_number(buf, u64::from(number));
+    put_place(buf, number);
 }
 
 // Appends a weighted row, its weight and its number each after a space.

@@ -88,7 +88,6 @@ design_texts : (shown : Shown) (s : Stated) (blocks : List (List ℕ)) → texts
 unfolding design_line
 design_texts shown s blocks =
     ap (λ l. (design_text s.group (base s blocks) ++ 10 ∷ []) ++ l) (comment_texts shown s blocks)
-    ∙ ap (λ l. l ++ comment_lines shown s blocks) (append_assoc (codes "design") (block_pieces s.group 0 (base s blocks)) (10 ∷ []))
 
 solution_texts : (shown : Shown) (s : Stated) (o : Option (List Bool)) → texts (logged_solution shown s o) ≡ solution_lines shown s o
 solution_texts shown s None = refl

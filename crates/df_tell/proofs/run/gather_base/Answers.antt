@@ -1,18 +1,25 @@
-use Rattle.std.proofs.Common.{◌∙◌}
-use Rattle.df_io.proofs.Writing.{writes_as, writes_then, writes_stopped, writes_stopped_then}
+use Rattle.std.proofs.Common.{codes, ap, ◌++◌, ◌∷◌, []}
 use Rattle.df_tell.specs.Run.{design_line}
-use Rattle.df_tell.proofs.run.write_base.Goals as goal
+use Rattle.df_tell.proofs.GatheredTexts.{gathers_put, gathers_then, gathers_stopped, gathers_stopped_then}
+use Rattle.df_tell.proofs.run.gather_base.Goals as goal
 
-pub returns-in_err-write_all : goal.returns-in_err-write_all
+pub returns-in_err-make_room : goal.returns-in_err-make_room
 unfolding design_line
-returns-in_err-write_all g c = writes_stopped _ (writes_as (c.as_slice.ensures.value ∙ c.fill_design_start.ensures) c.in_err-write_all.ensures) c.from_residual.ensures.0
+returns-in_err-make_room g c = gathers_stopped _ c.in_err-make_room.ensures.same c.from_residual.ensures.0
 
-pub returns-in_err-write_pieces : goal.returns-in_err-write_pieces
+pub returns-in_err-gather_pieces : goal.returns-in_err-gather_pieces
 unfolding design_line
-returns-in_err-write_pieces g c =
-    writes_stopped_then _ (writes_as (c.as_slice.ensures.value ∙ c.fill_design_start.ensures) c.in_ok-write_all.ensures) c.in_err-write_pieces.ensures c.from_residual-in_err-write_pieces.ensures.0
+returns-in_err-gather_pieces g c =
+    gathers_stopped_then _ (gathers_then c.in_ok-make_room.ensures.same (gathers_put c.put_design_start.ensures.text)) c.in_err-gather_pieces.ensures c.from_residual-in_err-gather_pieces.ensures.0
+
+pub returns-in_err-make_room-2 : goal.returns-in_err-make_room-2
+unfolding design_line
+returns-in_err-make_room-2 g c =
+    gathers_then (gathers_then c.in_ok-make_room.ensures.same (gathers_put c.put_design_start.ensures.text))
+    (gathers_stopped_then _ c.in_ok-gather_pieces.ensures c.in_err-make_room-2.ensures.same c.from_residual-in_err-make_room-2.ensures.0)
 
 pub returns : goal.returns
 unfolding design_line
 returns g c =
-    writes_then (writes_as (c.as_slice.ensures.value ∙ c.fill_design_start.ensures) c.in_ok-write_all.ensures) (writes_then c.in_ok-write_pieces.ensures c.write_all-2.ensures)
+    gathers_then (gathers_then c.in_ok-make_room.ensures.same (gathers_put c.put_design_start.ensures.text))
+    (gathers_then c.in_ok-gather_pieces.ensures (gathers_then c.in_ok-make_room-2.ensures.same (gathers_put c.push.ensures.items)))

@@ -1,32 +1,32 @@
 use Rattle.std.proofs.Common.{◌++◌, [], refl, ap, sym, subst, ◌∙◌, inl, inr, append_assoc}
 use Rattle.std.specs.List.{flat_map}
-use Rattle.df_io.proofs.Writing.{writes_nothing, writes_as, writes_then, writes_stopped_then}
 use Rattle.df_lists.specs.Membership.{In}
 use Rattle.df_tell.specs.Run.{block_comment}
-use Rattle.df_tell.proofs.run.write_comments.Goals as goal
+use Rattle.df_tell.proofs.GatheredTexts.{gathers_nothing, gathers_as, gathers_then, gathers_stopped_then}
+use Rattle.df_tell.proofs.run.gather_comments.Goals as goal
 
 pub loop-block-init : goal.loop-block-init
-loop-block-init g c = record { written = ([], refl, writes_nothing); short = c.requires }
+loop-block-init g c = record { done = ([], refl, gathers_nothing); short = c.requires }
 
-pub fill_comment-requires : goal.fill_comment-requires
-fill_comment-requires g c = c.loop-block.invariant.short c.in-Some.block (subst (λ l. In l c.in-Some.block) (sym c.in-Some.ensures) (inl refl))
+pub gather_comment-requires : goal.gather_comment-requires
+gather_comment-requires g c = c.loop-block.invariant.short c.in-Some.block (subst (λ l. In l c.in-Some.block) (sym c.in-Some.ensures) (inl refl))
 
 pub loop-block-preserved : goal.loop-block-preserved
 loop-block-preserved g c =
     let line = block_comment c.args.problem.now in
-    let written = c.loop-block.invariant.written in
+    let done = c.loop-block.invariant.done in
     record {
-      written = (
-        written.0 ++ line c.in-Some.block,
-        append_assoc written.0 (line c.in-Some.block) (flat_map line c.next.new.self) ∙ ap (λ l. written.0 ++ flat_map line l) (sym c.in-Some.ensures) ∙ written.1,
-        writes_then written.2 (writes_as (c.as_slice.ensures.value ∙ c.fill_comment.ensures) c.in_ok-write_all.ensures),
+      done = (
+        done.0 ++ line c.in-Some.block,
+        append_assoc done.0 (line c.in-Some.block) (flat_map line c.next.new.self) ∙ ap (λ l. done.0 ++ flat_map line l) (sym c.in-Some.ensures) ∙ done.1,
+        gathers_then done.2 c.in_ok-gather_comment.ensures,
       );
       short = λ b i. c.loop-block.invariant.short b (subst (λ l. In l b) (sym c.in-Some.ensures) (inr i));
     }
 
-pub returns-in_err-write_all : goal.returns-in_err-write_all
-returns-in_err-write_all g c =
+pub returns-in_err-gather_comment : goal.returns-in_err-gather_comment
+returns-in_err-gather_comment g c =
     let line = block_comment c.args.problem.now in
-    let written = c.loop-block.invariant.written in
-    writes_as (ap (λ l. written.0 ++ flat_map line l) (sym c.in-Some.ensures) ∙ written.1)
-    (writes_stopped_then (flat_map line c.next.new.self) written.2 (writes_as (c.as_slice.ensures.value ∙ c.fill_comment.ensures) c.in_err-write_all.ensures) c.from_residual.ensures.0)
+    let done = c.loop-block.invariant.done in
+    gathers_as (ap (λ l. done.0 ++ flat_map line l) (sym c.in-Some.ensures) ∙ done.1)
+    (gathers_stopped_then (flat_map line c.next.new.self) done.2 c.in_err-gather_comment.ensures c.from_residual.ensures.0)

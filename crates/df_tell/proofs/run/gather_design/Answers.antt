@@ -1,17 +1,17 @@
 use Rattle.std.proofs.Common.{subst}
-use Rattle.df_io.proofs.Writing.{writes_as, writes_then, writes_stopped}
+use Rattle.df_tell.proofs.GatheredTexts.{gathers_as, gathers_then, gathers_stopped}
 use Rattle.df_lists.specs.Membership.{In}
 use Rattle.df_tell.proofs.RunTexts.{IsFound, found, printed, printed_base, printed_all, same_blocks, design_short}
-use Rattle.df_tell.proofs.run.write_design.Goals as goal
+use Rattle.df_tell.proofs.run.gather_design.Goals as goal
 
-pub returns-in_err-write_base : goal.returns-in_err-write_base
-returns-in_err-write_base g c =
+pub returns-in_err-gather_base : goal.returns-in_err-gather_base
+returns-in_err-gather_base g c =
     let s = c.args.problem.now in
     let f : IsFound s c.args.designs.now c.reps.result = found s c.args.designs.now c.reps.result c.requires.problem c.requires.chosen c.reps.ensures in
-    writes_as (printed c.args.shown s c.args.designs.now c.reps.result f) (writes_stopped _ c.in_err-write_base.ensures c.from_residual.ensures.0)
+    gathers_as (printed c.args.shown s c.args.designs.now c.reps.result f) (gathers_stopped _ c.in_err-gather_base.ensures c.from_residual.ensures.0)
 
-pub write_comments-requires : goal.write_comments-requires
-write_comments-requires g c =
+pub gather_comments-requires : goal.gather_comments-requires
+gather_comments-requires g c =
     let s = c.args.problem.now in
     let r = c.args.designs.now in
     let f : IsFound s r c.reps.result = found s r c.reps.result c.requires.problem c.requires.chosen c.reps.ensures in
@@ -22,11 +22,11 @@ returns-then-shown g c =
     let s = c.args.problem.now in
     let r = c.args.designs.now in
     let f : IsFound s r c.reps.result = found s r c.reps.result c.requires.problem c.requires.chosen c.reps.ensures in
-    writes_as (printed_all c.args.shown s r c.reps.result c.blocks-then-shown.result f c.blocks-then-shown.ensures c.if-shown.true) (writes_then c.in_ok-write_base.ensures c.write_comments.ensures)
+    gathers_as (printed_all c.args.shown s r c.reps.result c.blocks-then-shown.result f c.blocks-then-shown.ensures c.if-shown.true) (gathers_then c.in_ok-gather_base.ensures c.gather_comments.ensures)
 
 pub returns-else-shown : goal.returns-else-shown
 returns-else-shown g c =
     let s = c.args.problem.now in
     let r = c.args.designs.now in
     let f : IsFound s r c.reps.result = found s r c.reps.result c.requires.problem c.requires.chosen c.reps.ensures in
-    writes_as (printed_base c.args.shown s r c.reps.result f c.if-shown.false) c.in_ok-write_base.ensures
+    gathers_as (printed_base c.args.shown s r c.reps.result f c.if-shown.false) c.in_ok-gather_base.ensures
