@@ -12,3 +12,4 @@ pub mod SpentTexts
 pub mod EndsBack
 pub mod LinesShort
 pub mod StreamSteps
+pub mod PieceSteps

@@ -13,6 +13,7 @@ mod entries;
 mod judge;
 mod laws;
 mod lengths;
+mod line_reader;
 mod numbers;
 mod paths;
 mod put;
@@ -32,6 +33,7 @@ pub use lengths::{
     END_BYTES, ENTRY_BYTES, PATH_BYTES, block_piece_is_short, end_text_is_short,
     entry_text_is_short, path_piece_is_short,
 };
+pub use line_reader::LineReader;
 pub use numbers::{MOST_COUNT, MOST_NUMBER};
 pub use paths::{PathRead, read_path};
 pub use put::{
