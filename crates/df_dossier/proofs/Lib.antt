@@ -16,3 +16,5 @@ pub mod DesignsBack
 pub mod TextsBack
 pub mod RunPaths
 pub mod PutPlaces
+pub mod StreamSteps
+pub mod PieceSteps

@@ -24,7 +24,7 @@ use Rattle.df_families.specs.Families.{picked}
 use Rattle.df_correspondence.specs.Designs.{design, base}
 use Rattle.df_dossier.specs.Entries.{entry_text}
 use Rattle.df_dossier.specs.Paths.{path_text, end_tokens}
-use Rattle.df_dossier.specs.Designs.{block_pieces, design_text}
+use Rattle.df_dossier.specs.Designs.{design_text}
 use Rattle.df_dossier.specs.RoundTrips.{IsLogged}
 use Rattle.df_dossier.specs.DesignsBack.{DesignsReadBack}
 use Rattle.df_dossier.specs.DossierTexts.{Logged, logged_text, head_tokens, count_tokens, start_text, spent_text, dossier_lines, IsLoggedLine}
