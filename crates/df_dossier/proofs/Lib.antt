@@ -11,3 +11,4 @@ pub mod PathTests
 pub mod SpentTexts
 pub mod EndsBack
 pub mod LinesShort
+pub mod SpentKept

@@ -1,6 +1,7 @@
 // What is written is read back: laws, each the contract of a function that does nothing.
 ghost use Rattle.df_dossier.specs.RoundTrips.{EntriesReadBack, PathsReadBack, EndsReadBack};
 ghost use Rattle.df_dossier.specs.DossierTexts.{SpentReadBack};
+ghost use Rattle.df_dossier.specs.SpentRules.{SpentKeepTheirRules};
 
 /// `read_entry` gives back each entry that `put_entry` writes: by either rules a branch, a row over
 /// or under and a settled one, and by the divisor's rules residues and cuts too.
@@ -24,4 +25,9 @@ pub fn ends_are_read_back()
 /// source lines state the problem, with entries, designs and comments in any order.
 pub fn spent_dossiers_are_read_back()
     ensures { SpentReadBack }
+{}
+
+/// A dossier of at most `MOST_BYTES` bytes that ended spent states no problem but one that keeps its rules.
+pub fn spent_dossiers_keep_their_rules()
+    ensures { SpentKeepTheirRules }
 {}

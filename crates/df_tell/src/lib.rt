@@ -7,9 +7,11 @@
 
 mod canonical;
 mod counts;
+mod dossier;
 mod limits;
 mod matrix;
 mod orbits;
+mod path;
 mod refusal;
 mod run;
 #[cfg(test)]
@@ -19,9 +21,11 @@ mod usage;
 mod verdict;
 
 pub use canonical::write_canonical;
+pub use dossier::write_dossier_refusal;
 pub use limits::{Limit, write_limit};
 pub use matrix::write_matrix;
 pub use orbits::write_orbits;
+pub use path::{PathRefusal, write_path_refusal};
 pub use refusal::write_refusal;
 pub use run::{RunEnd, Shown, write_run};
 pub use table::write_table;
