@@ -1,5 +1,6 @@
 pub mod Endings
-pub mod SolvedRuns
+pub mod PathRefusals
+pub mod SearchRuns
 pub mod Headline
 pub mod EntryLimits
 pub mod BlockLimits

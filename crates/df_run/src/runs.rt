@@ -5,8 +5,9 @@ ghost use Rattle.df_run.specs.Headline.{Headline};
 ghost use Rattle.df_run.specs.Streams.{incoming, outgoing};
 
 use crate::answers::{answer_bytes, ended};
+use crate::resume::answer_resume;
 use crate::statuses::Status;
-use crate::tasks::{SOURCE_BYTES, SourceTask, Task};
+use crate::tasks::{SOURCE_BYTES, SourceTask, StreamTask, Task};
 use df_correspondence::designs_are_solutions;
 use df_family::{table_tells_balance, verdict_tells_balance};
 use df_io::{ReadError, Sink, Source, read_all};
@@ -61,6 +62,7 @@ fn run_words<I: Source, O: Sink>(
     };
     match Task::from(command) {
         Task::Source(task) => answer_source(alloc, task, input, out),
+        Task::Stream(task) => answer_stream(alloc, task, input, out),
     }
 }
 
@@ -80,5 +82,21 @@ fn answer_source<I: Source, O: Sink>(
         Err(ReadError::ReadFault) => Status::ReadFault,
         Err(ReadError::TooLong) => Status::TooLong,
         Err(ReadError::OutOfMemory) => Status::OutOfMemory,
+    }
+}
+
+// Answers a task that reads lines one by one.
+fn answer_stream<I: Source, O: Sink>(
+    alloc: Global,
+    task: StreamTask,
+    input: &mut I,
+    out: &mut O,
+) -> Status
+    ensures answers { Answers (Task.Stream task) (incoming I.left I.faults input.old input.new) (outgoing O.written O.faults out.old out.new) result }
+    ensures reads { I.faults input.old ≤ I.faults input.new }
+    ensures writes { O.faults out.old ≤ O.faults out.new }
+{
+    match task {
+        StreamTask::Resume(options) => answer_resume(alloc, options, input, out),
     }
 }
