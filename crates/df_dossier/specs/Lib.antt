@@ -10,3 +10,4 @@ pub mod Dossiers
 pub mod Sources
 pub mod Spent
 pub mod DossierTexts
+pub mod SpentStreams
