@@ -11,3 +11,4 @@ pub mod Sources
 pub mod Spent
 pub mod DossierTexts
 pub mod SpentRules
+pub mod SpentStreams

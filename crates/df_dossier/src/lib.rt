@@ -19,6 +19,7 @@ mod put;
 mod source_text;
 mod spent;
 mod stages;
+mod stream;
 
 pub use designs::{DesignRead, read_design};
 pub use df_walk::{CutRow, Entry, Rules};
@@ -38,6 +39,7 @@ pub use put::{
     put_design_block, put_design_start, put_end, put_entry, put_path_column, put_path_start,
 };
 pub use spent::{Spent, SpentError, read_spent};
+pub use stream::{StreamError, read_spent_stream};
 
 #[cfg(test)]
 mod design_tests;

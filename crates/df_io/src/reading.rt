@@ -1,18 +1,14 @@
 // A reading line by line, of a source that is handed to each call.
-ghost use Rattle.std.specs.Prelude.{◌≡◌, ◌≤◌, [], ◌∷◌, ◌++◌, IfOk, IfErr, OnOk, IsErrOf, IsSome, Ok, Err, Some, None, true, false};
+ghost use Rattle.std.specs.Prelude.{◌≡◌, ◌≤◌, [], ◌∷◌, ◌++◌, IfErr, OnOk, IsErrOf, IsSome, Ok, Err, Some, None, true, false};
 ghost use Rattle.std.specs.Io.KnownBytes.{IsAtEnd};
 ghost use Rattle.df_io.specs.Streams.{Reads, IsNextLine, IsNoLine, IsStream, new_stream};
 ghost use Rattle.df_io.specs.LineSteps.{Finds, Fills};
 
-use crate::OutOfMemory;
 use crate::ahead::{Ahead, PIECE};
 use crate::bytes::{MOST_BYTES, ReadError};
 use crate::traits::{Failed, Source};
 use std::alloc::{AllocError, Global};
 use std::marker::Model;
-
-// Room for a line of the usual length, which is taken at once.
-const USUAL_LINE: usize = 128;
 
 /// What was taken of a source and not yet handed out, the line that was, and how the reading ended, once it has.
 #[derive(Drop)]
@@ -51,18 +47,18 @@ impl Model for Reading {
 
 impl Reading {
     /// Nothing is read yet.
-    pub fn new(alloc: Global, limit: u64) -> Result<Reading, OutOfMemory>
+    pub fn new(alloc: Global, limit: u64) -> Reading
         requires { limit ≤ MOST_BYTES }
-        ensures { IfOk result (λ r. r ≡ new_stream limit) }
+        ensures { result ≡ new_stream limit }
     {
-        Ok(Reading {
+        Reading {
             ahead: Ahead::new(),
-            line: Vec::with_capacity(alloc, USUAL_LINE)?,
+            line: Vec::new(alloc),
             number: 0,
             taken: 0,
             limit,
             ended: None,
-        })
+        }
     }
 
     /// What was taken keeps to the limits of a reading.
