@@ -29,18 +29,18 @@ said_after f number after (Some x) t h =
 
 first_after : {A : Type 0} (f : DossierFault) (read : List ℕ → Option A) (number : ℕ) (lines : List (List ℕ)) (t : Taken A) → first_line f read number lines ≡ Ok t → length t.after ≤ length lines
 first_after f read number [] t h = absurd (cc)
-first_after {A} f read number (line ∷ lines) t h = by (has_tokens line) h
+first_after {A} f read number (line ∷ lines) t h = by (first_after f read (number + 1) lines t) (has_tokens line) h
   where
-    by : (b : Bool) → cond b (said_or f number lines (read line)) (first_line f read (number + 1) lines) ≡ Ok t → length t.after ≤ length (line ∷ lines)
-    by true g = omega (arith, ap (λ (l : List (List ℕ)). length l) (said_after f number lines (read line) t g))
-    by false g = omega (arith, first_after f read (number + 1) lines t g)
+    by : (first_line f read (number + 1) lines ≡ Ok t → length t.after ≤ length lines) → (b : Bool) → cond b (said_or f number lines (read line)) (first_line f read (number + 1) lines) ≡ Ok t → length t.after ≤ length (line ∷ lines)
+    by later true g = omega (arith, ap (λ (l : List (List ℕ)). length l) (said_after f number lines (read line) t g))
+    by later false g = omega (arith, later g)
 
 stated_is : (number : ℕ) (r : Result Stated SourceError) (p : Stated) → stated_or number r ≡ Ok p → r ≡ Ok p
 stated_is number (Ok q) p h = cc
 stated_is number (Err e) p h = absurd (cc)
 
 -- the problem of a dossier is that of its source lines, which are some of the lines
-IsOfLines : ℕ → Stated → Type 0
+abbrev IsOfLines : ℕ → Stated → Type 0
 IsOfLines most p = (lines : List (List ℕ)) × (length lines ≤ most) × (source_lines lines ≡ Ok p)
 
 start_problem : (rules : Rules) (source : List (List ℕ)) (p : Stated) (number : ℕ) (lines : List (List ℕ)) (t : Taken (Dossier Stated WrittenPath (List (List ℕ)))) → start_from whole rules source p number lines ≡ Ok t → t.value.problem ≡ p
@@ -51,11 +51,9 @@ start_problem rules source p number lines t h =
     ap (λ (u : Taken (Dossier Stated WrittenPath (List (List ℕ)))). u.value.problem) (sym is)
 
 source_of : (rules : Rules) (number n : ℕ) (lines : List (List ℕ)) (t : Taken (Dossier Stated WrittenPath (List (List ℕ)))) → source_from whole rules number n lines ≡ Ok t → IsOfLines (length lines) t.value.problem
-unfolding IsOfLines
 source_of rules number n lines t h = by (nat_lt (length lines) n) h
   where
     by : (b : Bool) → cond b (refused 0 fault.BadHead) (stated_or number (source_lines (take n lines)) >>= λ p. start_from whole rules (take n lines) p (number + 1 + n) (drop n lines)) ≡ Ok t → IsOfLines (length lines) t.value.problem
-    unfolding IsOfLines
     by true g = absurd (cc)
     by false g =
         let p = kept (stated_or number (source_lines (take n lines))) _ t g in
@@ -63,7 +61,6 @@ source_of rules number n lines t h = by (nat_lt (length lines) n) h
         (take n lines, omega (arith, length-take n lines), stated_is number (source_lines (take n lines)) p.0 p.1 ∙ ap Ok (sym same))
 
 dossier_of : (lines : List (List ℕ)) (t : Taken (Dossier Stated WrittenPath (List (List ℕ)))) → dossier_from whole 1 lines ≡ Ok t → IsOfLines (length lines) t.value.problem
-unfolding IsOfLines
 dossier_of lines t h =
     let head = kept (first_line fault.BadHead head_line 1 lines) _ t h in
     let count = kept (first_line fault.BadHead count_line (head.0.number + 1) head.0.after) _ t head.2 in
@@ -75,18 +72,17 @@ dossier_of lines t h =
 -- a spent dossier gives its problem
 nothing_is : {A : Type 0} (x : A) (number : ℕ) (lines : List (List ℕ)) (y : A) → nothing_after x number lines ≡ Ok y → x ≡ y
 nothing_is x number [] y h = cc
-nothing_is {A} x number (line ∷ lines) y h = by (has_tokens line) h
+nothing_is {A} x number (line ∷ lines) y h = by (nothing_is x (number + 1) lines y) (has_tokens line) h
   where
-    by : (b : Bool) → cond b (refused number fault.Trailing) (nothing_after x (number + 1) lines) ≡ Ok y → x ≡ y
-    by true g = absurd (cc)
-    by false g = nothing_is x (number + 1) lines y g
+    by : (nothing_after x (number + 1) lines ≡ Ok y → x ≡ y) → (b : Bool) → cond b (refused number fault.Trailing) (nothing_after x (number + 1) lines) ≡ Ok y → x ≡ y
+    by later true g = absurd (cc)
+    by later false g = later g
 
 end_problem : (rules : Rules) (p : Stated) (next : Option WrittenPath) (number : ℕ) (after : List (List ℕ)) (d : Spent) → spent_end rules p next number after ≡ Ok d → d.problem ≡ p
 end_problem rules p None number after d h = absurd (cc)
 end_problem rules p (Some path) number after d h = ap (λ (e : Spent). e.problem) (sym (nothing_is record { problem = p; path = path; rules = rules } (number + 1) after d h))
 
 pub spent_kept : (bytes : List ℕ) (d : Spent) → length bytes ≤ MOST_BYTES → spent bytes ≡ Ok d → IsStated d.problem
-unfolding IsOfLines
 spent_kept bytes d few h =
     let t = kept (dossier_from whole 1 (lines_of bytes)) spent_alone d h in
     let found = dossier_of (lines_of bytes) t.0 t.1 in

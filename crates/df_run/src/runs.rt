@@ -9,11 +9,13 @@ use crate::resume::answer_resume;
 use crate::statuses::Status;
 use crate::tasks::{SOURCE_BYTES, SourceTask, StreamTask, Task};
 use df_correspondence::designs_are_solutions;
+use df_dossier::spent_dossiers_keep_their_rules;
 use df_family::{table_tells_balance, verdict_tells_balance};
 use df_io::{ReadError, Sink, Source, read_all};
 use df_kramer_mesner::orbit_systems_are_systems;
 use df_lang::sources_keep_their_rules;
 use df_runs::laws::runs_are_whole;
+use df_search::paths_have_reasons;
 use df_tell::write_usage;
 use df_words::{commands_are_their_lines, read_words};
 use std::alloc::Global;
@@ -21,9 +23,10 @@ use std::alloc::Global;
 /// Runs the command of the words over an input, and writes its text.
 ///
 /// `Usage` comes where the words are not a command, and nothing is read then. Else `ReadFault` and `TooLong` come where
-/// the input was not read to its end; `BadInput` where it is not a source, or the problem is above a limit of the command;
-/// `Refused` only from `verify`; `Spent` only from `solve`; and `Done` with the command's text. `WriteFault` comes where the sink failed before the end
-/// of the text, and `OutOfMemory` may come before its first byte.
+/// the input was not read to its end; `BadInput` where it is not what the command reads, the problem is above a limit of the
+/// command, or a search can't go on at its path; `Refused` only from `verify`; `Spent` only from `solve` and `resume`; and `Done`
+/// with the command's text. `WriteFault` comes where the sink failed before the end of the text, and `OutOfMemory` may come before
+/// its first byte.
 pub fn run<I: Source, O: Sink>(
     alloc: Global,
     words: &[String],
@@ -37,10 +40,12 @@ pub fn run<I: Source, O: Sink>(
 {
     commands_are_their_lines();
     sources_keep_their_rules();
+    spent_dossiers_keep_their_rules();
     table_tells_balance();
     verdict_tells_balance();
     orbit_systems_are_systems();
     runs_are_whole();
+    paths_have_reasons();
     designs_are_solutions();
     run_words(alloc, words, input, out)
 }
