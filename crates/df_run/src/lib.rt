@@ -30,6 +30,8 @@ mod orbit_tests;
 #[cfg(test)]
 mod plain_designs;
 #[cfg(test)]
+mod refusal_tests;
+#[cfg(test)]
 mod resume_tests;
 #[cfg(test)]
 mod solve_tests;

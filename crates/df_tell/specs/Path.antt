@@ -6,17 +6,21 @@ use Rattle.df_search.specs.declared.Why.TheVariants.{SettledBefore, Over, Under,
 use Rattle.df_tell.specs.declared.path.PathRefusal.{PathRefusal}
 use Rattle.df_tell.specs.declared.path.PathRefusal.TheVariants.{Long, NoNode}
 
--- the least length of a settled proper prefix, or the least row that rules the path out
-abbrev pub why_text : Why → List ℕ
-why_text (SettledBefore size) = codes "settled before " ++ decimal size
-why_text (Over row) = codes "over " ++ decimal row
-why_text (Under row) = codes "under " ++ decimal row
-why_text (Residue row) = codes "residue " ++ decimal row
+-- why a path is no node: a settled proper prefix, or what rules it out
+abbrev pub why_words : Why → List ℕ
+why_words (SettledBefore size) = codes "settled before "
+why_words (Over row) = codes "over "
+why_words (Under row) = codes "under "
+why_words (Residue row) = codes "residue "
+
+-- the least length of such a prefix, or the least such row
+abbrev pub why_number : Why → ℕ
+why_number (SettledBefore size) = size
+why_number (Over row) = row
+why_number (Under row) = row
+why_number (Residue row) = row
 
 -- how many columns the path decides and how many there are, or why it is no node
-abbrev pub why_refused : PathRefusal → List ℕ
-why_refused (Long size columns) = ((codes "length " ++ decimal size) ++ codes " above ") ++ decimal columns
-why_refused (NoNode why) = why_text why
-
 unfoldable pub path_refusal_text : PathRefusal → List ℕ
-path_refusal_text refusal = (codes "path refused " ++ why_refused refusal) ++ 10 ∷ []
+path_refusal_text (Long size columns) = (((codes "path refused length " ++ decimal size) ++ codes " above ") ++ decimal columns) ++ 10 ∷ []
+path_refusal_text (NoNode why) = ((codes "path refused " ++ why_words why) ++ decimal (why_number why)) ++ 10 ∷ []

@@ -1,5 +1,5 @@
 // What is printed of an input that is not one dossier that ended spent.
-ghost use Rattle.std.specs.Prelude.{◌≡◌, ◌≤◌, ◌++◌, length};
+ghost use Rattle.std.specs.Prelude.{◌≡◌, ◌≤◌, ◌+◌, ◌++◌};
 ghost use Rattle.arrayvec.specs.ArrayVec.{array_vec_len};
 ghost use Rattle.df_io.specs.Writing.{Writes};
 ghost use Rattle.df_tell.specs.Dossier.{dossier_fault_text, dossier_text};
@@ -38,7 +38,7 @@ fn fill_refusal(text: &mut LineBuf, line: u64, fault: &DossierFault)
 fn put_dossier_fault(text: &mut LineBuf, fault: &DossierFault)
     requires { array_vec_len text.old ≤ 900 }
     ensures text { text.new.items ≡ text.old.items ++ dossier_fault_text fault.now }
-    ensures short { length (dossier_fault_text fault.now) ≤ 24 }
+    ensures len { array_vec_len text.new ≤ array_vec_len text.old + 24 }
 {
     match fault {
         DossierFault::BadHead => put_text(text, b"BadHead"),

@@ -1,8 +1,7 @@
 // What is printed of a path at which a search can't go on.
-ghost use Rattle.std.specs.Prelude.{◌≡◌, ◌≤◌, ◌++◌, length};
-ghost use Rattle.arrayvec.specs.ArrayVec.{array_vec_len};
+ghost use Rattle.std.specs.Prelude.{◌≡◌, ◌≤◌, length};
 ghost use Rattle.df_io.specs.Writing.{Writes};
-ghost use Rattle.df_tell.specs.Path.{why_text, why_refused, path_refusal_text};
+ghost use Rattle.df_tell.specs.Path.{why_words, why_number, path_refusal_text};
 
 use df_design::Why;
 use df_io::{LineBuf, Sink, WriteFault, put_number, put_text, write_all};
@@ -31,42 +30,41 @@ fn fill_refusal(line: &mut LineBuf, refusal: PathRefusal)
     ensures { line.new.items ≡ path_refusal_text refusal }
 {
     line.clear();
-    put_text(line, b"path refused ");
     match refusal {
         PathRefusal::Long { length, columns } => {
-            put_text(line, b"length ");
+            put_text(line, b"path refused length ");
             put_number(line, u64::from(length));
             put_text(line, b" above ");
             put_number(line, u64::from(columns));
         }
-        PathRefusal::NoNode(why) => put_why(line, why),
+        PathRefusal::NoNode(why) => {
+            put_text(line, b"path refused ");
+            put_text(line, words(why));
+            put_number(line, u64::from(number(why)));
+        }
     }
     line.push(b'\n');
 }
 
-// Appends why a path isn't a node. The buffer has room for it: 40 bytes or fewer.
-#[tactic(auto, using(df_io::proofs::NumbersBack::decimal_short))]
-fn put_why(line: &mut LineBuf, why: Why)
-    requires { array_vec_len line.old ≤ 900 }
-    ensures text { line.new.items ≡ line.old.items ++ why_text why }
-    ensures short { length (why_text why) ≤ 40 }
+// What of a path makes it no node.
+fn words(why: Why) -> &'static [u8]
+    ensures text { result.now ≡ why_words why }
+    ensures short { length (why_words why) ≤ 15 }
 {
     match why {
-        Why::SettledBefore(length) => {
-            put_text(line, b"settled before ");
-            put_number(line, u64::from(length));
-        }
-        Why::Over(row) => {
-            put_text(line, b"over ");
-            put_number(line, u64::from(row));
-        }
-        Why::Under(row) => {
-            put_text(line, b"under ");
-            put_number(line, u64::from(row));
-        }
-        Why::Residue(row) => {
-            put_text(line, b"residue ");
-            put_number(line, u64::from(row));
-        }
+        Why::SettledBefore(_) => b"settled before ",
+        Why::Over(_) => b"over ",
+        Why::Under(_) => b"under ",
+        Why::Residue(_) => b"residue ",
+    }
+}
+
+// The length of the prefix, or the row.
+fn number(why: Why) -> u32
+    ensures { result ≡ why_number why }
+{
+    match why {
+        Why::SettledBefore(length) => length,
+        Why::Over(row) | Why::Under(row) | Why::Residue(row) => row,
     }
 }
