@@ -105,14 +105,13 @@ module _ (options : Options) (o : Outgoing) where
 
   -- the answer of one that goes on at a node
   module _ (runs : RunsAreWhole) (reasons : PathsHaveReasons) (d : Spent) (system : IsSystem (orbit_system d.problem)) where
-    goes_on : Answer
+    abbrev goes_on : Answer
     goes_on = search_answer d.rules d.problem options (path_of d.path)
 
     from_node : IsNode d.rules (orbit_system d.problem) (path_of d.path) → IsRunFrom d.rules (orbit_system d.problem) (path_of d.path) options.budget (run_of d.rules (orbit_system d.problem) (path_of d.path) options.budget)
     from_node node = runs d.rules (orbit_system d.problem) (path_of d.path) options.budget system (start_of d.rules (orbit_system d.problem) (path_of d.path) node)
 
     resumes : (bytes : List ℕ) → spent bytes ≡ Ok d → (limit : Option Limit) (refusal : Option PathRefusal) → path_refusal d.rules (orbit_system d.problem) d.path ≡ refusal → ends.Done ≡ (within limit (at_node refusal goes_on)).status → Appends o.written o.written_after (within limit (at_node refusal goes_on)).text → IsResumed options o bytes
-    unfolding goes_on
     resumes bytes is None None fits status text =
         let node = no_refusal reasons d.rules (orbit_system d.problem) d.path fits in record {
           dossier = d;
@@ -124,7 +123,6 @@ module _ (options : Options) (o : Outgoing) where
     resumes bytes is (Some limit) refusal fits status text = absurd (cc)
 
     stays_spent : (bytes : List ℕ) → spent bytes ≡ Ok d → (limit : Option Limit) (refusal : Option PathRefusal) → path_refusal d.rules (orbit_system d.problem) d.path ≡ refusal → ends.Spent ≡ (within limit (at_node refusal goes_on)).status → Appends o.written o.written_after (within limit (at_node refusal goes_on)).text → IsResumedSpent options o bytes
-    unfolding goes_on
     stays_spent bytes is None None fits status text =
         let node = no_refusal reasons d.rules (orbit_system d.problem) d.path fits in record {
           dossier = d;
