@@ -18,3 +18,4 @@ pub mod RunPaths
 pub mod PutPlaces
 pub mod StreamSteps
 pub mod PieceSteps
+pub mod SpentKept

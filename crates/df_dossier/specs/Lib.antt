@@ -15,3 +15,4 @@ pub mod TextsBack
 pub mod RunPaths
 pub mod SpentStreams
 pub mod Pieces
+pub mod SpentRules

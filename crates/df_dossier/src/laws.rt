@@ -4,6 +4,7 @@ ghost use Rattle.df_dossier.specs.DesignsBack.{DesignsReadBack};
 ghost use Rattle.df_dossier.specs.DossierTexts.{SpentReadBack};
 ghost use Rattle.df_dossier.specs.TextsBack.{TextsReadBack};
 ghost use Rattle.df_dossier.specs.RunPaths.{PathsMayStand};
+ghost use Rattle.df_dossier.specs.SpentRules.{SpentKeepTheirRules};
 
 use df_lang::points_are_read_back;
 
@@ -46,4 +47,9 @@ pub fn texts_are_read_back()
 /// A path of decisions whose length is at most `MOST_NUMBER` may stand in a dossier, as the yes columns that it has.
 pub fn paths_may_stand()
     ensures { PathsMayStand }
+{}
+
+/// A dossier of at most `MOST_BYTES` bytes that ended spent states no problem but one that keeps its rules.
+pub fn spent_dossiers_keep_their_rules()
+    ensures { SpentKeepTheirRules }
 {}

@@ -28,7 +28,8 @@ pub use entries::{MOST_ROWS, MOST_WEIGHT, read_entry};
 pub use judge::{DossierFault, LineJudge, Piece};
 pub use laws::{
     designs_are_read_back, ends_are_read_back, entries_are_read_back, paths_are_read_back,
-    paths_may_stand, spent_dossiers_are_read_back, texts_are_read_back,
+    paths_may_stand, spent_dossiers_are_read_back, spent_dossiers_keep_their_rules,
+    texts_are_read_back,
 };
 pub use lengths::{
     END_BYTES, ENTRY_BYTES, PATH_BYTES, block_piece_is_short, end_text_is_short,
