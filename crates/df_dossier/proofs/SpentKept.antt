@@ -8,17 +8,13 @@ use Rattle.df_walk.specs.Paths.{WrittenPath}
 use Rattle.df_lang.specs.declared.fault.SourceError.{SourceError}
 use Rattle.df_lang.specs.Problems.{Stated, IsStated}
 use Rattle.df_lang.specs.Rules.{◌>>=◌}
+use Rattle.df_lang.proofs.RulesKept.{bind_kept}
 use Rattle.df_lang.proofs.SourcesKept.{few_lines, lines_kept}
 use Rattle.df_dossier.specs.declared.judge.DossierFault.{DossierFault}
 use Rattle.df_dossier.specs.declared.judge.DossierFault.TheVariants as fault
 use Rattle.df_dossier.specs.declared.spent.Spent.{Spent}
 use Rattle.df_dossier.specs.Dossiers.{Refusal, refused, Taken, Dossier, has_tokens, said_or, first_line, head_line, count_line, from_line, log_from, start_from, stated_or, source_from, count_from, dossier_from, source_lines, whole}
 use Rattle.df_dossier.specs.Spent.{nothing_after, spent_end, spent_alone, spent_lines, spent}
-
--- the first of two rules was kept, and then the other
-kept : {A B E : Type 0} (r : Result A E) (f : A → Result B E) (y : B) → (r >>= f) ≡ Ok y → (x : A) × (r ≡ Ok x) × (f x ≡ Ok y)
-kept (Ok x) f y h = (x, refl, h)
-kept (Err e) f y h = absurd (cc)
 
 -- lines that follow a line are no more than with it
 said_after : {A : Type 0} (f : DossierFault) (number : ℕ) (after : List (List ℕ)) (o : Option A) (t : Taken A) → said_or f number after o ≡ Ok t → t.after ≡ after
@@ -45,8 +41,8 @@ IsOfLines most p = (lines : List (List ℕ)) × (length lines ≤ most) × (sour
 
 start_problem : (rules : Rules) (source : List (List ℕ)) (p : Stated) (number : ℕ) (lines : List (List ℕ)) (t : Taken (Dossier Stated WrittenPath (List (List ℕ)))) → start_from whole rules source p number lines ≡ Ok t → t.value.problem ≡ p
 start_problem rules source p number lines t h =
-    let start = kept (first_line fault.BadHead (from_line whole) number lines) _ t h in
-    let log = kept (log_from whole rules p (start.0.number + 1) start.0.after) _ t start.2 in
+    let start = bind_kept (first_line fault.BadHead (from_line whole) number lines) _ t h in
+    let log = bind_kept (log_from whole rules p (start.0.number + 1) start.0.after) _ t start.2 in
     let is : record { value = record { rules = rules; source = source; problem = p; start = start.0.value; log = log.0.value }; number = log.0.number; after = log.0.after } ≡ t = let e = log.2 in cc in
     ap (λ (u : Taken (Dossier Stated WrittenPath (List (List ℕ)))). u.value.problem) (sym is)
 
@@ -56,14 +52,14 @@ source_of rules number n lines t h = by (nat_lt (length lines) n) h
     by : (b : Bool) → cond b (refused 0 fault.BadHead) (stated_or number (source_lines (take n lines)) >>= λ p. start_from whole rules (take n lines) p (number + 1 + n) (drop n lines)) ≡ Ok t → IsOfLines (length lines) t.value.problem
     by true g = absurd (cc)
     by false g =
-        let p = kept (stated_or number (source_lines (take n lines))) _ t g in
+        let p = bind_kept (stated_or number (source_lines (take n lines))) _ t g in
         let same = start_problem rules (take n lines) p.0 (number + 1 + n) (drop n lines) t p.2 in
         (take n lines, omega (arith, length-take n lines), stated_is number (source_lines (take n lines)) p.0 p.1 ∙ ap Ok (sym same))
 
 dossier_of : (lines : List (List ℕ)) (t : Taken (Dossier Stated WrittenPath (List (List ℕ)))) → dossier_from whole 1 lines ≡ Ok t → IsOfLines (length lines) t.value.problem
 dossier_of lines t h =
-    let head = kept (first_line fault.BadHead head_line 1 lines) _ t h in
-    let count = kept (first_line fault.BadHead count_line (head.0.number + 1) head.0.after) _ t head.2 in
+    let head = bind_kept (first_line fault.BadHead head_line 1 lines) _ t h in
+    let count = bind_kept (first_line fault.BadHead count_line (head.0.number + 1) head.0.after) _ t head.2 in
     let found = source_of head.0.value count.0.number count.0.value count.0.after t count.2 in
     let few = first_after fault.BadHead head_line 1 lines head.0 head.1 in
     let fewer = first_after fault.BadHead count_line (head.0.number + 1) head.0.after count.0 count.1 in
@@ -84,7 +80,7 @@ end_problem rules p (Some path) number after d h = ap (λ (e : Spent). e.problem
 
 pub spent_kept : (bytes : List ℕ) (d : Spent) → length bytes ≤ MOST_BYTES → spent bytes ≡ Ok d → IsStated d.problem
 spent_kept bytes d few h =
-    let t = kept (dossier_from whole 1 (lines_of bytes)) spent_alone d h in
+    let t = bind_kept (dossier_from whole 1 (lines_of bytes)) spent_alone d h in
     let found = dossier_of (lines_of bytes) t.0 t.1 in
     let same = end_problem t.0.value.rules t.0.value.problem t.0.value.log.end.next t.0.number t.0.after d t.2 in
     subst IsStated (sym same) (lines_kept found.0 t.0.value.problem (omega (arith, few, few_lines bytes, found.1)) found.2)

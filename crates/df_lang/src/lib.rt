@@ -2,7 +2,7 @@
 //! It stands on df_io for lines and tokens, on df_group for the group, on df_subsets for the blocks, on df_sets for sets of sizes, and on indexmap for names in order of appearance.
 //! The crates above read sources by `parse` and print problems by `print`; they see a `Problem` as a record of numbers and lists, and cite the meaning of a
 //! source, the canonical lines, the target of two points and the balance of a list of blocks.
-//! Laws for the rooms above: proofs/SourcesKept.
+//! Laws for the rooms above: proofs/EachMember, proofs/RulesKept, proofs/SourcesKept.
 #![tactic(auto)]
 
 mod block_lines;
