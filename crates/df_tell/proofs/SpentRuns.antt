@@ -168,9 +168,9 @@ each_in : {X : Type 0} (P : X → Type 0) (xs : List X) → ((x : X) → In xs x
 each_in P [] all = tt
 each_in P (x ∷ xs) all = (all x (inl refl), each_in P xs (λ y i. all y (inr i)))
 
-join_each : {X : Type 0} (P : X → Type 0) (xs ys : List X) → Each P xs → Each P ys → Each P (xs ++ ys)
-join_each P [] ys left right = right
-join_each P (x ∷ xs) ys left right = (left.0, join_each P xs ys left.1 right)
+both_read : (rules : Rules) (s : Stated) (a b : List Logged) → Each (IsRead rules s) a → Each (IsRead rules s) b → Each (IsRead rules s) (a ++ b)
+both_read rules s [] b left right = right
+both_read rules s (x ∷ a) b left right = (left.0, both_read rules s a b left.1 right)
 
 pub each_first : (rules : Rules) (s : Stated) (log : List Logged) → Each (IsRead rules s) log → Each (IsLoggedLine rules s) log
 each_first rules s [] each = tt
@@ -228,6 +228,6 @@ module _ (rules : Rules) (s : Stated) (is : IsStated s) (shown : Shown) (sets : 
   pub steps_read : (steps : List Step) → ((step : Step) → In steps step → IsLogged rules step.1) → Each (IsRead rules s) (logged shown s steps)
   steps_read [] are = tt
   steps_read (step ∷ steps) are =
-      join_each (IsRead rules s) (logged_step shown s step) (logged shown s steps)
-      (join_each (IsRead rules s) (logged_entry shown step.1) (logged_solution shown s (solution_of (orbit_system s) step)) (entry_read step.1 (are step (inl refl))) (solution_read (solution_of (orbit_system s) step)))
+      both_read rules s (logged_step shown s step) (logged shown s steps)
+      (both_read rules s (logged_entry shown step.1) (logged_solution shown s (solution_of (orbit_system s) step)) (entry_read step.1 (are step (inl refl))) (solution_read (solution_of (orbit_system s) step)))
       (steps_read steps (λ other i. are other (inr i)))
