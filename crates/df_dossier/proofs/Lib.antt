@@ -15,3 +15,6 @@ pub mod LinesClean
 pub mod DesignsBack
 pub mod TextsBack
 pub mod RunPaths
+pub mod PutPlaces
+pub mod StreamSteps
+pub mod PieceSteps

@@ -13,3 +13,5 @@ pub mod Spent
 pub mod DossierTexts
 pub mod TextsBack
 pub mod RunPaths
+pub mod SpentStreams
+pub mod Pieces

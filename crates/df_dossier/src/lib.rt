@@ -13,12 +13,14 @@ mod entries;
 mod judge;
 mod laws;
 mod lengths;
+mod line_reader;
 mod numbers;
 mod paths;
 mod put;
 mod source_text;
 mod spent;
 mod stages;
+mod stream;
 
 pub use designs::{DesignRead, read_design};
 pub use df_walk::{CutRow, Entry, Rules};
@@ -32,12 +34,15 @@ pub use lengths::{
     END_BYTES, ENTRY_BYTES, PATH_BYTES, block_piece_is_short, end_text_is_short,
     entry_text_is_short, path_piece_is_short,
 };
+pub use line_reader::LineReader;
 pub use numbers::{MOST_COUNT, MOST_NUMBER};
 pub use paths::{PathRead, read_path};
 pub use put::{
-    put_design_block, put_design_start, put_end, put_entry, put_path_column, put_path_start,
+    put_branch, put_design_block, put_design_start, put_end, put_entry, put_over, put_path_column,
+    put_path_start, put_residue, put_settled, put_under,
 };
 pub use spent::{Spent, SpentError, read_spent};
+pub use stream::{StreamError, read_spent_stream};
 
 #[cfg(test)]
 mod design_tests;

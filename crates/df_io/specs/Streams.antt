@@ -81,6 +81,7 @@ pub record IsNextLine (old new : Stream) (left left_new : Option (List ℕ)) : T
   pub not_ended : old.ended ≡ None
   pub plain : Lacks is_line_feed new.line
   pub given : Consumes (to_come old left) (to_come new left_new) (new.line ++ line_end new.ended)
+  pub counted : new.taken + length old.ahead ≡ old.taken + length (new.line ++ line_end new.ended) + length new.ahead
   pub number : new.number ≡ old.number + 1
   pub whole : IsSome new.ended → IsLastLine new left_new
 

@@ -19,24 +19,27 @@ pub struct LineSource<'s, S: Source> {
 }
 
 impl<'s, S: Source> LineSource<'s, S> {
-    ghost use Rattle.std.specs.Prelude.{◌≡◌, ◌≤◌, IfOk, IfErr, OnOk, IsErrOf, IsSome, Ok, Err, Some, None, true, false};
+    ghost use Rattle.std.specs.Prelude.{◌≡◌, ◌≤◌, IsOk, IfOk, IfErr, OnOk, IsErrOf, IsSome, Ok, Err, Some, None, true, false};
     ghost use Rattle.std.specs.Io.KnownBytes.{IsAtEnd};
     ghost use Rattle.df_io.specs.Streams.{Reads, IsNextLine, IsNoLine, IsStream, new_stream};
 
     /// All lines of the input, from its first byte on, of which at most `limit` bytes may come. `limit` is at most
-    /// `MOST_BYTES`.
+    /// `MOST_BYTES`. It reads nothing and takes no memory yet, so it is `Ok`.
     pub fn new(
         alloc: Global,
         input: &'s mut S,
         limit: u64,
     ) -> Result<LineSource<'s, S>, OutOfMemory>
         requires { limit ≤ MOST_BYTES }
+        ensures made { IsOk result }
         ensures source { IfOk result (λ lines. lines.input.ghost_name ≡ input.entry.ghost_name) }
         ensures unread { IfOk result (λ lines. lines.input.now ≡ input.old) }
         ensures stream { IfOk result (λ lines. lines.reading ≡ new_stream limit) }
     {
-        let reading = Reading::new(alloc, limit)?;
-        Ok(LineSource { input, reading })
+        Ok(LineSource {
+            input,
+            reading: Reading::new(alloc, limit),
+        })
     }
 
     /// Reads the next line, which `line` then lends: `true`. `false` exactly where no line is left and the input was

@@ -112,7 +112,7 @@ name_byte_high b h =
 
 name_bytes_high : (bs : List ℕ) → list_all is_name_byte bs ≡ true → Each (λ b. 47 < b) bs
 name_bytes_high [] h = tt
-name_bytes_high (b ∷ bs) h = let parts = and_parts (is_name_byte b) (list_all is_name_byte bs) h in (name_byte_high b parts.0, name_bytes_high bs parts.1)
+name_bytes_high (b ∷ bs) h = let both = and_parts (is_name_byte b) (list_all is_name_byte bs) h in (name_byte_high b both.0, name_bytes_high bs both.1)
 
 first_some : (bs : List ℕ) → list_any is_letter (take 1 bs) ≡ true → 0 < length bs
 first_some [] h = absurd cc

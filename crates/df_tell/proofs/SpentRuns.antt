@@ -24,7 +24,7 @@ use Rattle.df_families.specs.Families.{picked}
 use Rattle.df_correspondence.specs.Designs.{design, base}
 use Rattle.df_dossier.specs.Entries.{entry_text}
 use Rattle.df_dossier.specs.Paths.{path_text, end_tokens}
-use Rattle.df_dossier.specs.Designs.{block_pieces, design_text}
+use Rattle.df_dossier.specs.Designs.{design_text}
 use Rattle.df_dossier.specs.RoundTrips.{IsLogged}
 use Rattle.df_dossier.specs.DesignsBack.{DesignsReadBack}
 use Rattle.df_dossier.specs.DossierTexts.{Logged, logged_text, head_tokens, count_tokens, start_text, spent_text, dossier_lines, IsLoggedLine}
@@ -88,7 +88,6 @@ design_texts : (shown : Shown) (s : Stated) (blocks : List (List ℕ)) → texts
 unfolding design_line
 design_texts shown s blocks =
     ap (λ l. (design_text s.group (base s blocks) ++ 10 ∷ []) ++ l) (comment_texts shown s blocks)
-    ∙ ap (λ l. l ++ comment_lines shown s blocks) (append_assoc (codes "design") (block_pieces s.group 0 (base s blocks)) (10 ∷ []))
 
 solution_texts : (shown : Shown) (s : Stated) (o : Option (List Bool)) → texts (logged_solution shown s o) ≡ solution_lines shown s o
 solution_texts shown s None = refl

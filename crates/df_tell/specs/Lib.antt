@@ -1,6 +1,7 @@
 pub mod Canonical
 pub mod Cells
 pub mod Counts
+pub mod Gathered
 pub mod Limits
 pub mod Matrix
 pub mod Orbits

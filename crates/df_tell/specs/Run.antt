@@ -14,7 +14,7 @@ use Rattle.df_lang.specs.Canonical.{canonical, block_text}
 use Rattle.df_kramer_mesner.specs.OrbitSystems.{orbit_system}
 use Rattle.df_correspondence.specs.Designs.{design, base}
 use Rattle.df_design.specs.RemainingDesigns.{Remaining}
-use Rattle.df_dossier.specs.Designs.{block_pieces}
+use Rattle.df_dossier.specs.Designs.{design_text}
 use Rattle.df_dossier.specs.Entries.{entry_text}
 use Rattle.df_dossier.specs.Paths.{path_text, end_tokens}
 use Rattle.df_tell.specs.Counts.{count_line}
@@ -42,7 +42,7 @@ from_text p = codes "from" ++ path_end p
 
 -- the line of a design: its base blocks
 unfoldable pub design_line : Stated → List (List ℕ) → List ℕ
-design_line s blocks = codes "design" ++ (block_pieces s.group 0 blocks ++ 10 ∷ [])
+design_line s blocks = design_text s.group blocks ++ 10 ∷ []
 
 -- the comment line of a block
 unfoldable pub block_comment : Stated → List ℕ → List ℕ

@@ -7,12 +7,15 @@
 
 mod canonical;
 mod counts;
+mod gathered;
 mod laws;
 mod limits;
 mod matrix;
 mod orbits;
 mod refusal;
 mod run;
+#[cfg(test)]
+mod run_fill_tests;
 #[cfg(test)]
 mod run_tests;
 mod table;
