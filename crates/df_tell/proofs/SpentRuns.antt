@@ -15,7 +15,6 @@ use Rattle.df_walk.specs.declared.Entry.{Entry}
 use Rattle.df_walk.specs.Walks.{Step, solution_of, solutions_in, nodes_in}
 use Rattle.df_walk.specs.Paths.{written_path}
 use Rattle.df_runs.specs.Runs.{Run}
-use Rattle.df_lang.proofs.EachMember.{each_append}
 use Rattle.df_lang.specs.Problems.{Stated, IsStated, IsBlock, point_count}
 use Rattle.df_lang.specs.Canonical.{canonical, block_text}
 use Rattle.df_lang.specs.RoundTrip.{PointsReadBack}
@@ -168,6 +167,10 @@ each_in : {X : Type 0} (P : X → Type 0) (xs : List X) → ((x : X) → In xs x
 each_in P [] all = tt
 each_in P (x ∷ xs) all = (all x (inl refl), each_in P xs (λ y i. all y (inr i)))
 
+both_read : (rules : Rules) (s : Stated) (a b : List Logged) → Each (IsRead rules s) a → Each (IsRead rules s) b → Each (IsRead rules s) (a ++ b)
+both_read rules s [] b left right = right
+both_read rules s (x ∷ a) b left right = (left.0, both_read rules s a b left.1 right)
+
 pub each_first : (rules : Rules) (s : Stated) (log : List Logged) → Each (IsRead rules s) log → Each (IsLoggedLine rules s) log
 each_first rules s [] each = tt
 each_first rules s (x ∷ log) each = (each.0.0, each_first rules s log each.1)
@@ -224,6 +227,6 @@ module _ (rules : Rules) (s : Stated) (is : IsStated s) (shown : Shown) (sets : 
   pub steps_read : (steps : List Step) → ((step : Step) → In steps step → IsLogged rules step.1) → Each (IsRead rules s) (logged shown s steps)
   steps_read [] are = tt
   steps_read (step ∷ steps) are =
-      each_append (IsRead rules s) (logged_step shown s step) (logged shown s steps)
-      (each_append (IsRead rules s) (logged_entry shown step.1) (logged_solution shown s (solution_of (orbit_system s) step)) (entry_read step.1 (are step (inl refl))) (solution_read (solution_of (orbit_system s) step)))
+      both_read rules s (logged_step shown s step) (logged shown s steps)
+      (both_read rules s (logged_entry shown step.1) (logged_solution shown s (solution_of (orbit_system s) step)) (entry_read step.1 (are step (inl refl))) (solution_read (solution_of (orbit_system s) step)))
       (steps_read steps (λ other i. are other (inr i)))
