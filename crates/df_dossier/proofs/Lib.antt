@@ -11,4 +11,11 @@ pub mod PathTests
 pub mod SpentTexts
 pub mod EndsBack
 pub mod LinesShort
+pub mod LinesClean
+pub mod DesignsBack
+pub mod TextsBack
+pub mod RunPaths
+pub mod PutPlaces
+pub mod StreamSteps
+pub mod PieceSteps
 pub mod SpentKept

@@ -2,6 +2,8 @@
 use Rattle.std.specs.declared.option.Option.{Option}
 use Rattle.std.specs.Io.KnownBytes.{Consumes, IsAtEnd}
 use Rattle.std.specs.Prelude.{◌≡◌, ℕ, ◌+◌, ◌≤◌, List, length, Result, Ok, Err}
+use Rattle.df_io.specs.declared.bytes.ReadError.{ReadError}
+use Rattle.df_io.specs.declared.bytes.ReadError.TheVariants as read_error
 use Rattle.df_io.specs.declared.bytes.TheConstants.{MOST_BYTES}
 use Rattle.df_io.specs.Causes.{Rose, ConsumesAtMost}
 use Rattle.df_dossier.specs.declared.spent.Spent.{Spent}
@@ -22,3 +24,9 @@ ReadsSpent left left_new faults faults_new (Err ReadFault) = ConsumesAtMost left
 ReadsSpent left left_new faults faults_new (Err TooLong) = (bytes : List ℕ) × Consumes left left_new bytes × (length bytes ≡ MOST_BYTES + 1)
 ReadsSpent left left_new faults faults_new (Err (Refused (spent_error.Refused line fault))) = ReadsAll left left_new (λ bytes. GivesSpent (spent bytes) (Err (spent_error.Refused line fault)))
 ReadsSpent left left_new faults faults_new (Err (Refused spent_error.OutOfMemory)) = ConsumesAtMost left left_new MOST_BYTES
+
+-- what is answered where a reading ended before its input did
+abbrev pub stopped : ReadError → StreamError SpentError
+stopped read_error.ReadFault = ReadFault
+stopped read_error.TooLong = TooLong
+stopped read_error.OutOfMemory = Refused spent_error.OutOfMemory

@@ -13,6 +13,7 @@ mod entries;
 mod judge;
 mod laws;
 mod lengths;
+mod line_reader;
 mod numbers;
 mod paths;
 mod put;
@@ -26,17 +27,20 @@ pub use df_walk::{CutRow, Entry, Rules};
 pub use entries::{MOST_ROWS, MOST_WEIGHT, read_entry};
 pub use judge::{DossierFault, LineJudge, Piece};
 pub use laws::{
-    ends_are_read_back, entries_are_read_back, paths_are_read_back, spent_dossiers_are_read_back,
-    spent_dossiers_keep_their_rules,
+    designs_are_read_back, ends_are_read_back, entries_are_read_back, paths_are_read_back,
+    paths_may_stand, spent_dossiers_are_read_back, spent_dossiers_keep_their_rules,
+    texts_are_read_back,
 };
 pub use lengths::{
     END_BYTES, ENTRY_BYTES, PATH_BYTES, block_piece_is_short, end_text_is_short,
     entry_text_is_short, path_piece_is_short,
 };
+pub use line_reader::LineReader;
 pub use numbers::{MOST_COUNT, MOST_NUMBER};
 pub use paths::{PathRead, read_path};
 pub use put::{
-    put_design_block, put_design_start, put_end, put_entry, put_path_column, put_path_start,
+    put_branch, put_design_block, put_design_start, put_end, put_entry, put_over, put_path_column,
+    put_path_start, put_residue, put_settled, put_under,
 };
 pub use spent::{Spent, SpentError, read_spent};
 pub use stream::{StreamError, read_spent_stream};

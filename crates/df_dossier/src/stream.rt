@@ -2,12 +2,12 @@
 // lines and what `Spent` holds. After a line that breaks a rule the rest is read too, and kept nowhere: so an answer
 // about the bytes speaks of all of them, and a read that fails or too many bytes are told in its place.
 ghost use Rattle.std.specs.Prelude.{◌≡◌, ◌≤◌};
-ghost use Rattle.df_dossier.specs.SpentStreams.{ReadsSpent};
+ghost use Rattle.df_dossier.specs.SpentStreams.{ReadsSpent, stopped as stop_of};
 
 use crate::spent::{Spent, SpentError};
 use crate::stages::Stage;
-use df_io::{LineSource, MOST_BYTES, ReadError, Source};
-use std::alloc::{AllocError, Global};
+use df_io::{MOST_BYTES, ReadError, Reading, Source};
+use std::alloc::Global;
 
 /// Why a source isn't read as what a call reads.
 #[derive(Clone, Copy, Debug, PartialEq, Eq)]
@@ -34,20 +34,12 @@ pub fn read_spent_stream<S: Source>(
     ensures given { ReadsSpent (S.left input.old) (S.left input.new) (S.faults input.old) (S.faults input.new) result }
     ensures later { S.faults input.old ≤ S.faults input.new }
 {
-    let mut lines = match LineSource::new(alloc, input, MOST_BYTES) {
-        Ok(lines) => lines,
-        Err(AllocError) => return Err(StreamError::Refused(SpentError::OutOfMemory)),
-    };
-    read_lines(alloc, &mut lines)
-}
-
-fn read_lines<S: Source>(
-    alloc: Global,
-    lines: &mut LineSource<'_, S>,
-) -> Result<Spent, StreamError<SpentError>> {
     let mut stage = Stage::Head;
+    let mut reading = Reading::new(alloc, MOST_BYTES);
     loop {
-        match lines.next_line() {
+        let read = reading.next_line(input);
+        reading.keeps_limits();
+        match read {
             Ok(true) => {}
             Ok(false) => {
                 return match stage.end() {
@@ -57,29 +49,30 @@ fn read_lines<S: Source>(
             }
             Err(error) => return Err(stopped(error)),
         }
-        match stage.line(alloc, lines.number(), lines.line()) {
+        match stage.line(alloc, reading.number(), reading.line()) {
             Ok(next) => stage = next,
-            Err(error) => return Err(give_up(lines, error)),
+            Err(SpentError::OutOfMemory) => {
+                return Err(StreamError::Refused(SpentError::OutOfMemory));
+            }
+            Err(SpentError::Refused { line, fault }) => {
+                let rest = reading.finish(input);
+                reading.keeps_limits();
+                return match rest {
+                    Ok(()) => Err(StreamError::Refused(SpentError::Refused { line, fault })),
+                    Err(error) => Err(stopped(error)),
+                };
+            }
         }
     }
 }
 
-// Why the lines end before the input does.
-fn stopped(error: ReadError) -> StreamError<SpentError> {
+// What is answered where a reading ends before its input does.
+fn stopped(error: ReadError) -> StreamError<SpentError>
+    ensures { result ≡ stop_of error }
+{
     match error {
         ReadError::ReadFault => StreamError::ReadFault,
         ReadError::TooLong => StreamError::TooLong,
         ReadError::OutOfMemory => StreamError::Refused(SpentError::OutOfMemory),
-    }
-}
-
-// A line breaks a rule: reads the rest, where a read that fails or too many bytes are told in its place.
-fn give_up<S: Source>(lines: &mut LineSource<'_, S>, error: SpentError) -> StreamError<SpentError> {
-    match error {
-        SpentError::OutOfMemory => StreamError::Refused(error),
-        SpentError::Refused { .. } => match lines.finish() {
-            Ok(()) => StreamError::Refused(error),
-            Err(error) => stopped(error),
-        },
     }
 }

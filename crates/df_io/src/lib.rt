@@ -28,6 +28,7 @@ pub use line_source::LineSource;
 pub use lines::{Line, Lines};
 pub use mem::{MemSink, MemSource};
 pub use numbers::{NumberRead, read_number};
+pub use reading::Reading;
 pub use std_streams::{StdSink, StdSource};
 pub use sure::{SureSink, SureSource};
 pub use texts::{LineBuf, put_number, put_signed, put_text};

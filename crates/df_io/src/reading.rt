@@ -10,7 +10,11 @@ use crate::traits::{Failed, Source};
 use std::alloc::{AllocError, Global};
 use std::marker::Model;
 
-/// What was taken of a source and not yet handed out, the line that was, and how the reading ended, once it has.
+/// A reading of a source line by line, as `LineSource` has it, with the source handed to each call: what was taken of it
+/// and not yet handed out, the line that was, and how the reading ended, once it has.
+///
+/// It is for callers whose own clauses speak of the source, which a value that holds a `&mut` of it keeps from them.
+/// Each call is to have the same source, of which nothing else reads.
 #[derive(Drop)]
 pub struct Reading {
     ahead: Ahead,
@@ -46,7 +50,7 @@ impl Model for Reading {
 }
 
 impl Reading {
-    /// Nothing is read yet.
+    /// Nothing is read yet, and no memory taken. At most `limit` bytes may come, and `limit` is at most `MOST_BYTES`.
     pub fn new(alloc: Global, limit: u64) -> Reading
         requires { limit ≤ MOST_BYTES }
         ensures { result ≡ new_stream limit }
@@ -61,14 +65,14 @@ impl Reading {
         }
     }
 
-    /// What was taken keeps to the limits of a reading.
+    /// A law of each reading: what was taken of the source keeps to the limit, and to `PIECE` bytes ahead of the lines.
     pub fn keeps_limits(&self)
         ensures { IsStream self.now }
     {
         let _number = self.number;
     }
 
-    /// Reads the next line, where one is left.
+    /// Reads the next line, where one is left, as `LineSource::next_line` does.
     pub fn next_line<S: Source>(&mut self, input: &mut S) -> Result<bool, ReadError>
         ensures reads { Reads S.left S.faults self.old self.new input.old input.new }
         ensures some { result ≡ Ok true
@@ -140,7 +144,7 @@ impl Reading {
         self.number
     }
 
-    /// Reads the rest, and keeps none of it.
+    /// Reads the rest, and keeps none of it, as `LineSource::finish` does.
     pub fn finish<S: Source>(&mut self, input: &mut S) -> Result<(), ReadError>
         ensures reads { Reads S.left S.faults self.old self.new input.old input.new }
         ensures ended { self.new.ended ≡ Some result }

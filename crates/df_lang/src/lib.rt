@@ -42,7 +42,10 @@ pub use pieces::{Inside, Kind, Member, Name, Which};
 pub use print_points::{block_text_is_short, point_text_is_short, put_block, put_point};
 pub use problem::{MOST_BLOCKS, MOST_TARGET, NAMES_LIMIT, Problem};
 pub use read_points::read_point;
-pub use round_trip::{canonical_lines_are_read_back, problem_is_read_back};
+pub use round_trip::{
+    canonical_lines_are_lines, canonical_lines_are_read_back, points_are_read_back,
+    problem_is_read_back,
+};
 pub use rules::{problems_keep_their_rules, sources_keep_their_rules};
 pub use sources::parse;
 pub use targets::target;

@@ -1,6 +1,5 @@
 -- What the run of a search from a path says of the designs that a problem asks for.
 use Rattle.std.proofs.Common.{◌≡◌, ℕ, ◌+◌, ◌≤◌, ◌<◌, Bool, false, List, [], ◌∷◌, ◌++◌, length, map, Option, Some, None, refl, sym, ap, ◌∙◌, subst, arith}
-use Rattle.std.specs.Prelude.{filter}
 use Rattle.std.specs.List.{flat_map}
 use Rattle.std.specs.Io.KnownBytes.{Appends}
 use Rattle.std.proofs.lemmas.List.{append-nil, map-append, length-map}
@@ -9,8 +8,9 @@ use Rattle.df_walk.specs.declared.Rules.TheVariants.{Divisor}
 use Rattle.df_walk.specs.Systems.{System}
 use Rattle.df_walk.specs.Solutions.{solutions}
 use Rattle.df_walk.specs.Walks.{solutions_in, nodes_in}
-use Rattle.df_walk.specs.Paths.{not_before, rest, load, IsNode}
+use Rattle.df_walk.specs.Paths.{rest, load, IsNode}
 use Rattle.df_walk.specs.Remains.{IsStart}
+use Rattle.df_walk.proofs.RestSolutions.{rest_all}
 use Rattle.df_runs.specs.Runs.{Run, rest_at, load_at, EndsAt, IsRunFrom}
 use Rattle.df_lang.specs.Problems.{Stated}
 use Rattle.df_kramer_mesner.specs.OrbitSystems.{orbit_system}
@@ -24,14 +24,6 @@ use Rattle.df_run.specs.Answers.{shown_by, stop_status}
 use Rattle.df_run.specs.Headline.{designs_in, nodes_from, designs_text, IsFinished, IsStopped}
 use Rattle.df_run.specs.Streams.{Outgoing}
 use Rattle.df_run.specs.declared.statuses.Status.TheVariants as ends
-
--- nothing is before the empty path
-rest_all : (S : System) → rest S [] ≡ solutions S
-rest_all S = keep (solutions S)
-  where
-    keep : (xs : List (List Bool)) → filter (not_before []) xs ≡ xs
-    keep [] = refl
-    keep (x ∷ xs) = ap (λ l. x ∷ l) (keep xs)
 
 -- so the designs from the empty path on are all that are asked for
 pub designs_all : (s : Stated) → asked s ≡ map (design s) (solutions (orbit_system s)) → designs_from s [] ≡ asked s

@@ -63,9 +63,12 @@ resumed_ends options d =
 -- the answer to a dossier, where its bytes are all that was left
 module _ (options : Options) (d : Spent) (i : Incoming) (o : Outgoing) (read : IsAllOf MOST_BYTES i (λ bytes. spent bytes ≡ Ok d)) where
   answered : (status : Status) → (answer_resumed options d).status ≡ status → Appends o.written o.written_after (answer_resumed options d).text → IsAllOf MOST_BYTES i (λ bytes. (status ≡ (answer (Stream (Resume options)) bytes).status) × Appends o.written o.written_after (answer (Stream (Resume options)) bytes).text)
-  answered status is written = (read.0, IfSome_then i.left read.1 (λ bytes h.
-      let same : answer (Stream (Resume options)) bytes ≡ answer_resumed options d = ap (answer_spent options) h.1 in
-      (h.0, (sym (ap (λ (a : Answer). a.status) same ∙ is), subst (λ (a : Answer). Appends o.written o.written_after a.text) (sym same) written))))
+  answered status is written = (
+    read.0,
+    IfSome_then i.left read.1 (λ bytes h.
+        let same : answer (Stream (Resume options)) bytes ≡ answer_resumed options d = ap (answer_spent options) h.1 in
+        (h.0, (sym (ap (λ (a : Answer). a.status) same ∙ is), subst (λ (a : Answer). Appends o.written o.written_after a.text) (sym same) written))),
+  )
 
   stopped : AppendsPrefix o.written o.written_after (answer_resumed options d).text → IsAllOf MOST_BYTES i (λ bytes. AppendsPrefix o.written o.written_after (answer (Stream (Resume options)) bytes).text)
   stopped written = (read.0, IfSome_then i.left read.1 (λ bytes h. (h.0, subst (λ (a : Answer). AppendsPrefix o.written o.written_after a.text) (sym (ap (answer_spent options) h.1)) written)))

@@ -51,8 +51,14 @@ fn follow(
         let number = format!(in alloc; "{budget}")?;
         let words = ["resume", "--budget", number.as_str(), "--log"];
         let taken = if logged { 4 } else { 3 };
-        let (status, _, sink) =
-            run_over(alloc, &words[..taken], input.as_bytes(), 4096, 0, 65_536)?;
+        let (status, _, sink) = run_over(
+            alloc,
+            &words[..taken],
+            input.as_bytes(),
+            4096,
+            0,
+            65_536,
+        )?;
         let text = std::str::from_utf8(sink.bytes.as_slice()).unwrap_or("");
         let (log, end) = log_and_end(text).unwrap_or(("", ""));
         chain.log.push_str(log)?;
@@ -130,13 +136,7 @@ fn planes_of_order_3_in_chains(rt: HostRuntime) -> Result<(), Fail> {
 
 #[test]
 fn a_residue_in_chains(rt: HostRuntime) -> Result<(), Fail> {
-    assert_all_chains(
-        &rt,
-        "source 4\ngroup 7\nmult 6\nk 3\nlambda 3\n",
-        7,
-        5,
-        1,
-    )
+    assert_all_chains(&rt, "source 4\ngroup 7\nmult 6\nk 3\nlambda 3\n", 7, 5, 1)
 }
 
 #[test]

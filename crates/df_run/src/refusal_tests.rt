@@ -91,7 +91,10 @@ fn refuses_dossiers(rt: HostRuntime) -> Result<(), Fail> {
             ][..],
             "10 BadEnd",
         ),
-        (&["dossier 2\n", SEVEN, "from 0\nbranch 0\n"][..], "0 BadEnd"),
+        (
+            &["dossier 2\n", SEVEN, "from 0\nbranch 0\n"][..],
+            "0 BadEnd",
+        ),
         (
             &[
                 "dossier 2\n",

@@ -81,14 +81,24 @@ fn answer_path<O: Sink, L: Ledger>(
     let rules = spent.rules;
     match Designs::from_path(alloc, matrix, &spent.path, rules, &mut steps) {
         Ok(mut designs) => {
-            answer_designs(options, &spent.problem, &mut designs, rules, out, &mut steps)
+            answer_designs(
+                options,
+                &spent.problem,
+                &mut designs,
+                rules,
+                out,
+                &mut steps,
+            )
         }
         Err(ResumeError::PathRange { length, columns }) => {
             let refusal = PathRefusal::Long { length, columns };
             ended(Status::BadInput, write_path_refusal(refusal, out))
         }
         Err(ResumeError::NotNode(why)) => {
-            ended(Status::BadInput, write_path_refusal(PathRefusal::NoNode(why), out))
+            ended(
+                Status::BadInput,
+                write_path_refusal(PathRefusal::NoNode(why), out),
+            )
         }
         Err(ResumeError::OutOfMemory) => Status::OutOfMemory,
     }

@@ -9,8 +9,7 @@ pub(crate) const SEVEN: &str = "source 6\ngroup 7\nfixed 0\nshift all\nk 3\nlamb
 
 pub(crate) const EIGHT: &str = "source 6\ngroup 8\nfixed 1\nshift all\nk 3\nlambda 1\nhole 1\n";
 
-const RESIDUE: &str =
-    "source 7\ngroup 7\nfixed 0\nshift all\nmult 6\nk 3\nlambda 3\nhole 3\n";
+const RESIDUE: &str = "source 7\ngroup 7\nfixed 0\nshift all\nmult 6\nk 3\nlambda 3\nhole 3\n";
 
 // Pieces of a text, joined.
 pub(crate) fn joined(alloc: Global, pieces: &[&str]) -> Result<String, AllocError> {
@@ -35,8 +34,14 @@ fn assert_goes_on(
         let input = joined(rt.alloc(), &[head, source, log])?;
         let text = joined(rt.alloc(), &[head, source, wanted])?;
         for piece in [1usize, 7, 4096] {
-            let (status, source, sink) =
-                run_over(rt.alloc(), words, input.as_bytes(), piece, 0, 65_536)?;
+            let (status, source, sink) = run_over(
+                rt.alloc(),
+                words,
+                input.as_bytes(),
+                piece,
+                0,
+                65_536,
+            )?;
             assert_eq!(rt; status.code(), code, "at {log}");
             assert_eq!(rt; sink.bytes.as_slice(), text.as_bytes(), "at {log}");
             assert_eq!(rt; source.at, input.len());
@@ -52,8 +57,7 @@ pub(crate) fn assert_refused(
     wanted: &str,
 ) -> Result<(), Fail> {
     let input = joined(rt.alloc(), pieces)?;
-    let (status, source, sink) =
-        run_over(rt.alloc(), &["resume"], input.as_bytes(), 16, 0, 4096)?;
+    let (status, source, sink) = run_over(rt.alloc(), &["resume"], input.as_bytes(), 16, 0, 4096)?;
     assert_eq!(rt; status.code(), 3, "not {wanted}");
     assert_eq!(rt; sink.bytes.as_slice(), wanted.as_bytes(), "not {wanted}");
     assert_eq!(rt; source.at, input.len());
@@ -179,12 +183,22 @@ fn goes_on_by_the_rules_of_the_head(rt: HostRuntime) -> Result<(), Fail> {
 // A fault at each read, also after a line that is refused and where the path is no node; and each room of the sink.
 #[test]
 fn tells_faults_of_a_search_that_goes_on(rt: HostRuntime) -> Result<(), Fail> {
-    for end in ["next 1\n", "next 2 0 1\n", "next 1\nx # and more and more\n"] {
+    for end in [
+        "next 1\n",
+        "next 2 0 1\n",
+        "next 1\nx # and more and more\n",
+    ] {
         let log = "from 0\nend spent designs 1 nodes 2 ";
         let input = joined(rt.alloc(), &["dossier 2\n", SEVEN, log, end])?;
         for failing in 1..9u64 {
-            let (status, source, sink) =
-                run_over(rt.alloc(), &["resume"], input.as_bytes(), 16, failing, 4096)?;
+            let (status, source, sink) = run_over(
+                rt.alloc(),
+                &["resume"],
+                input.as_bytes(),
+                16,
+                failing,
+                4096,
+            )?;
             assert_eq!(rt; status.code(), 4, "at call {failing}");
             assert_eq!(rt; sink.bytes.len(), 0);
             assert_eq!(rt; source.calls, failing);
@@ -192,7 +206,11 @@ fn tells_faults_of_a_search_that_goes_on(rt: HostRuntime) -> Result<(), Fail> {
     }
     let input = joined(
         rt.alloc(),
-        &["dossier 2\n", SEVEN, "from 0\nend spent designs 0 nodes 1 next 1 0\n"],
+        &[
+            "dossier 2\n",
+            SEVEN,
+            "from 0\nend spent designs 0 nodes 1 next 1 0\n",
+        ],
     )?;
     let words = &["resume", "--log", "--blocks", "--budget", "2"][..];
     let (status, _, whole) = run_over(rt.alloc(), words, input.as_bytes(), 16, 0, 4096)?;

@@ -35,15 +35,7 @@ pub fn answer_designs<O: Sink, L: Ledger>(
         log: options.log,
         blocks: options.blocks,
     };
-    ran(write_run(
-        problem,
-        designs,
-        rules,
-        options.budget,
-        shown,
-        out,
-        steps,
-    ))
+    ran(write_run(problem, designs, rules, options.budget, shown, out, steps))
 }
 
 // The status of a run whose text was written.

@@ -34,7 +34,14 @@ pub fn answer_solve<O: Sink>(
     ensures writes { O.faults out.old ≤ O.faults out.new }
 {
     match matrix_of_problem(alloc, problem) {
-        Ok(matrix) => answer_start::<O, Brand>(alloc, options, problem, &matrix, out, Blank::new(1)),
+        Ok(matrix) => answer_start::<O, Brand>(
+            alloc,
+            options,
+            problem,
+            &matrix,
+            out,
+            Blank::new(1),
+        ),
         Err(LimitError::Above(limit)) => ended(Status::BadInput, write_limit(limit, out)),
         Err(LimitError::OutOfMemory) => Status::OutOfMemory,
     }

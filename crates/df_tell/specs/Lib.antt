@@ -2,6 +2,7 @@ pub mod Canonical
 pub mod Cells
 pub mod Counts
 pub mod Dossier
+pub mod Gathered
 pub mod Limits
 pub mod Matrix
 pub mod Orbits
@@ -9,6 +10,7 @@ pub mod Path
 pub mod Refusal
 pub mod Run
 pub mod RunSteps
+pub mod RunBack
 pub mod Table
 pub mod Usage
 pub mod Verdict

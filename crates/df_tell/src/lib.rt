@@ -8,12 +8,16 @@
 mod canonical;
 mod counts;
 mod dossier;
+mod gathered;
+mod laws;
 mod limits;
 mod matrix;
 mod orbits;
 mod path;
 mod refusal;
 mod run;
+#[cfg(test)]
+mod run_fill_tests;
 #[cfg(test)]
 mod run_tests;
 mod table;
@@ -22,6 +26,7 @@ mod verdict;
 
 pub use canonical::write_canonical;
 pub use dossier::write_dossier_refusal;
+pub use laws::spent_texts_are_read_back;
 pub use limits::{Limit, write_limit};
 pub use matrix::write_matrix;
 pub use orbits::write_orbits;

@@ -40,7 +40,7 @@ returns-in-Err-PathRange-clause-reply g c =
     let told = subst (Refuses d.rules (orbit_system c.args.matrix.now) d.path) c.in-Err-PathRange.field-0-is c.in-Err-PathRange.ensures.refusal in
     let refused = subst (λ s. Refuses d.rules (orbit_system s) d.path (PathRange long columns)) c.requires.matrix told in
     let is : path_refusal d.rules S d.path ≡ Some (Long long columns) =
-        too_long c.paths_have_reasons.ensures d.rules S d.path refused.2 ∙ ap (λ n. Some (Long n (length S.columns))) (sym refused.0) ∙ ap (λ m. Some (Long long m)) (sym refused.1) in
+    too_long c.paths_have_reasons.ensures d.rules S d.path refused.2 ∙ ap (λ n. Some (Long n (length S.columns))) (sym refused.0) ∙ ap (λ m. Some (Long long m)) (sym refused.1) in
     subst (λ refusal. RepliesOr (at_node refusal (search_answer d.rules d.problem c.args.options (path_of d.path))) (outgoing g.O.Sink.written g.O.Sink.faults c.args.out.now c.write_path_refusal.new.out) c.ended.result) (sym is)
     (inl (replied ends.BadInput c.ended.ensures (writes_as (same_text c.in-Err-PathRange.length-is c.in-Err-PathRange.columns-is) c.write_path_refusal.ensures)))
 
