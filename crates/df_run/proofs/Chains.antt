@@ -98,6 +98,7 @@ module _ (runs : RunsAreWhole) (chains : ChainsAreRuns) (reasons : PathsHaveReas
     where
       tail : Option (List Bool) → List Answer
       tail stop = cond (is_spent (run_answer rules s first p (record { taken = []; stop = stop })).status) (and_resumed (answer (Stream (Resume next)) (search_answer rules s first p).text) more) []
+
       by : ((q : List Bool) → IsStart rules (orbit_system s) q → and_resumed (search_answer rules s next q) more ≡ searches rules s (Some q) (next ∷ more)) → (stop : Option (List Bool)) → (run_of rules (orbit_system s) p first.budget).stop ≡ stop → search_answer rules s first p ∷ tail (run_of rules (orbit_system s) p first.budget).stop ≡ search_answer rules s first p ∷ searches rules s (run_of rules (orbit_system s) p first.budget).stop (next ∷ more)
       by later None is = ap (λ l. search_answer rules s first p ∷ l) (ap tail is ∙ ap (λ stop. searches rules s stop (next ∷ more)) (sym is))
       by later (Some q) is =
@@ -135,9 +136,9 @@ module _ (keep : SourcesKeepTheirRules) (keep_spent : SpentKeepTheirRules) (syst
         let kept = keep_spent bytes d few is in
         let s = d.problem in
         let answered : answer (Stream (Resume first)) bytes ≡ search_answer d.rules s first (path_of d.path) =
-            ap (answer_spent first) is
-            ∙ ap (λ limit. within limit (at_node (path_refusal d.rules (orbit_system s) d.path) (search_answer d.rules s first (path_of d.path)))) fits
-            ∙ ap (λ refusal. at_node refusal (search_answer d.rules s first (path_of d.path))) (node_goes_on reasons d.rules (orbit_system s) d.path node) in
+        ap (answer_spent first) is
+        ∙ ap (λ limit. within limit (at_node (path_refusal d.rules (orbit_system s) d.path) (search_answer d.rules s first (path_of d.path)))) fits
+        ∙ ap (λ refusal. at_node refusal (search_answer d.rules s first (path_of d.path))) (node_goes_on reasons d.rules (orbit_system s) d.path node) in
         subst (λ a. IsChain d.rules s (path_of d.path) (designs_from s (path_of d.path)) (first ∷ more) (and_resumed a more)) (sym answered)
         (chain_is runs chains reasons paths read_back d.rules s kept (systems s kept) fits first more (path_of d.path) (designs_from s (path_of d.path)) (start_of d.rules (orbit_system s) (path_of d.path) node) low refl);
   }
