@@ -5,3 +5,4 @@ pub mod SearchRuns
 pub mod Headline
 pub mod EntryLimits
 pub mod BlockLimits
+pub mod Chains

@@ -11,9 +11,14 @@ use Rattle.df_walk.specs.Paths.{WrittenPath, path_of, IsNode}
 use Rattle.df_search.specs.declared.Why.{Why}
 use Rattle.df_search.specs.Resumptions.{IsWhy}
 use Rattle.df_search.specs.Reasons.{why_no_node, PathsHaveReasons}
+use Rattle.df_tell.specs.Path.{path_refusal_text}
 use Rattle.df_tell.specs.declared.path.PathRefusal.{PathRefusal}
 use Rattle.df_tell.specs.declared.path.PathRefusal.TheVariants.{Long, NoNode}
 use Rattle.df_run.specs.Limits.{path_refusal}
+
+-- the same numbers are printed alike
+pub same_text : {a b c d : ℕ} → a ≡ b → c ≡ d → path_refusal_text (Long a c) ≡ path_refusal_text (Long b d)
+same_text {b = b} {c = c} e f = ap (λ n. path_refusal_text (Long n c)) e ∙ ap (λ m. path_refusal_text (Long b m)) f
 
 module _ (reasons : PathsHaveReasons) (rules : Rules) (s : System) (w : WrittenPath) where
   refusal_by : (long : Bool) (why : Option Why) → nat_lt (length s.columns) w.size ≡ long → why_no_node rules s (path_of w) ≡ why → path_refusal rules s w ≡ cond long (Some (Long w.size (length s.columns))) (option_map NoNode why)

@@ -1,6 +1,7 @@
 pub mod Answers
 pub mod Endings
 pub mod Headline
+pub mod Chains
 pub mod Limits
 pub mod Readings
 pub mod Statuses

@@ -1,9 +1,11 @@
 //! The top call: words and input to a status and a text.
-//! It stands on df_words for commands, on df_tell for texts, and on the crates of the language, of families, of orbits and of designs for what an answer is.
+//! It stands on df_words for commands, on df_tell for texts, and on the crates of the language, of families, of orbits, of designs and of dossiers for what an answer is.
 //! The program calls `run`. Its clause `ends` says for each status what was read and what was written, and its clause `headline` what that says of designs.
+//! A law of it, `chains_are_answered`, is about searches that go on with one another's texts.
 #![tactic(auto)]
 
 mod answers;
+mod laws;
 mod limits;
 mod matrix;
 mod orbits;
@@ -15,6 +17,7 @@ mod statuses;
 mod tasks;
 
 pub use df_words::{Command, Options, UsageFault, read_words};
+pub use laws::chains_are_answered;
 pub use runs::run;
 pub use statuses::Status;
 pub use tasks::SOURCE_BYTES;
