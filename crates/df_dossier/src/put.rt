@@ -41,7 +41,8 @@ pub fn put_branch(buf: &mut LineBuf, column: u32)
     ensures len { array_vec_len buf.new
         ≡ array_vec_len buf.old + length (entry_text (Branch column)) }
 {
-    put_one(buf, b"branch ", column);
+    put_text(buf, b"branch ");
+    put_place(buf, column);
 }
 
 /// Appends the line of a row that is over, as `put_entry` does. The buffer has room for it.
@@ -50,7 +51,8 @@ pub fn put_over(buf: &mut LineBuf, row: u32)
     ensures text { buf.new.items ≡ buf.old.items ++ entry_text (Over row) }
     ensures len { array_vec_len buf.new ≡ array_vec_len buf.old + length (entry_text (Over row)) }
 {
-    put_one(buf, b"over ", row);
+    put_text(buf, b"over ");
+    put_place(buf, row);
 }
 
 /// Appends the line of a row that is under, as `put_entry` does. The buffer has room for it.
@@ -59,7 +61,8 @@ pub fn put_under(buf: &mut LineBuf, row: u32)
     ensures text { buf.new.items ≡ buf.old.items ++ entry_text (Under row) }
     ensures len { array_vec_len buf.new ≡ array_vec_len buf.old + length (entry_text (Under row)) }
 {
-    put_one(buf, b"under ", row);
+    put_text(buf, b"under ");
+    put_place(buf, row);
 }
 
 /// Appends the line of a settled path, as `put_entry` does. The buffer has room for it.
@@ -78,19 +81,9 @@ pub fn put_residue(buf: &mut LineBuf, row: u32, divisor: u32)
     ensures len { array_vec_len buf.new
         ≡ array_vec_len buf.old + length (entry_text (Residue row divisor)) }
 {
-    put_one(buf, b"residue ", row);
+    put_text(buf, b"residue ");
+    put_place(buf, row);
     put_after(buf, divisor);
-}
-
-// Appends a word with its space, and a number.
-fn put_one(buf: &mut LineBuf, word: &[u8], number: u32)
-    requires { array_vec_len buf.old + length (word.now ++ decimal number) ≤ 1024 }
-    ensures text { buf.new.items ≡ buf.old.items ++ (word.now ++ decimal number) }
-    ensures len { array_vec_len buf.new
-        ≡ array_vec_len buf.old + length (word.now ++ decimal number) }
-{
-    put_text(buf, word);
-    put_place(buf, number);
 }
 
 // Appends the number of a row or a column. Most have at most three digits, which are put at once.

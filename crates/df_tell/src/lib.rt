@@ -18,6 +18,7 @@ mod refusal;
 mod run;
 #[cfg(test)]
 mod run_fill_tests;
+mod run_lines;
 #[cfg(test)]
 mod run_tests;
 mod table;

@@ -1,5 +1,5 @@
 use Rattle.df_tell.proofs.GatheredTexts.{gathers_put, gathers_then, gathers_stopped}
-use Rattle.df_tell.proofs.run.gather_piece.Goals as goal
+use Rattle.df_tell.proofs.run_lines.gather_piece.Goals as goal
 
 pub returns-in_err-make_room : goal.returns-in_err-make_room
 returns-in_err-make_room g c = gathers_stopped _ c.in_err-make_room.ensures.same c.from_residual.ensures.0

@@ -2,7 +2,7 @@ use Rattle.std.proofs.Common.{◌++◌, ◌∷◌, [], ap, ◌∙◌, append_ass
 use Rattle.df_lang.specs.Canonical.{block_text}
 use Rattle.df_tell.specs.Run.{block_comment}
 use Rattle.df_tell.proofs.GatheredTexts.{gathers_put, gathers_then, gathers_stopped}
-use Rattle.df_tell.proofs.run.gather_comment.Goals as goal
+use Rattle.df_tell.proofs.run_lines.gather_comment.Goals as goal
 
 pub returns-in_err-make_room : goal.returns-in_err-make_room
 returns-in_err-make_room g c = gathers_stopped _ c.in_err-make_room.ensures.same c.from_residual.ensures.0

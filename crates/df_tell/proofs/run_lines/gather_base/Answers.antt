@@ -1,7 +1,7 @@
 use Rattle.std.proofs.Common.{codes, ap, ◌++◌, ◌∷◌, []}
 use Rattle.df_tell.specs.Run.{design_line}
 use Rattle.df_tell.proofs.GatheredTexts.{gathers_put, gathers_then, gathers_stopped, gathers_stopped_then}
-use Rattle.df_tell.proofs.run.gather_base.Goals as goal
+use Rattle.df_tell.proofs.run_lines.gather_base.Goals as goal
 
 pub returns-in_err-make_room : goal.returns-in_err-make_room
 unfolding design_line

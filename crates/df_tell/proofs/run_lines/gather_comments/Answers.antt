@@ -3,7 +3,7 @@ use Rattle.std.specs.List.{flat_map}
 use Rattle.df_lists.specs.Membership.{In}
 use Rattle.df_tell.specs.Run.{block_comment}
 use Rattle.df_tell.proofs.GatheredTexts.{gathers_nothing, gathers_as, gathers_then, gathers_stopped_then}
-use Rattle.df_tell.proofs.run.gather_comments.Goals as goal
+use Rattle.df_tell.proofs.run_lines.gather_comments.Goals as goal
 
 pub loop-block-init : goal.loop-block-init
 loop-block-init g c = record { done = ([], refl, gathers_nothing); short = c.requires }

@@ -2,7 +2,7 @@ use Rattle.std.proofs.Common.{subst}
 use Rattle.df_tell.proofs.GatheredTexts.{gathers_as, gathers_then, gathers_stopped}
 use Rattle.df_lists.specs.Membership.{In}
 use Rattle.df_tell.proofs.RunTexts.{IsFound, found, printed, printed_base, printed_all, same_blocks, design_short}
-use Rattle.df_tell.proofs.run.gather_design.Goals as goal
+use Rattle.df_tell.proofs.run_lines.gather_design.Goals as goal
 
 pub returns-in_err-gather_base : goal.returns-in_err-gather_base
 returns-in_err-gather_base g c =

@@ -3,7 +3,7 @@ use Rattle.std.specs.List.{flat_map}
 use Rattle.df_lists.specs.Membership.{In}
 use Rattle.df_tell.specs.Gathered.{Gathers}
 use Rattle.df_tell.specs.Run.{block_comment}
-use Rattle.df_tell.proofs.run.gather_comments.Given as goal
+use Rattle.df_tell.proofs.run_lines.gather_comments.Given as goal
 
 -- what was gathered and the blocks that are left are all
 abbrev pub invariant-loop-block : goal.invariant-loop-block

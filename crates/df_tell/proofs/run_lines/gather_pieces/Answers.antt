@@ -2,7 +2,7 @@ use Rattle.std.proofs.Common.{◌++◌, [], refl, ap, sym, ◌∙◌, append_ass
 use Rattle.df_dossier.specs.Designs.{block_piece, block_pieces}
 use Rattle.df_tell.proofs.RunTexts.{pieces_later}
 use Rattle.df_tell.proofs.GatheredTexts.{gathers_nothing, gathers_as, gathers_then, gathers_stopped_then}
-use Rattle.df_tell.proofs.run.gather_pieces.Goals as goal
+use Rattle.df_tell.proofs.run_lines.gather_pieces.Goals as goal
 
 pub loop-block-init : goal.loop-block-init
 loop-block-init g c = record { done = ([], refl, gathers_nothing) }

@@ -1,7 +1,7 @@
 use Rattle.std.proofs.Common.{◌≡◌, ◌++◌, List, ℕ, length, Ok}
 use Rattle.df_dossier.specs.Designs.{block_pieces}
 use Rattle.df_tell.specs.Gathered.{Gathers}
-use Rattle.df_tell.proofs.run.gather_pieces.Given as goal
+use Rattle.df_tell.proofs.run_lines.gather_pieces.Given as goal
 
 -- what was gathered and the blocks that are left are all
 abbrev pub invariant-loop-block : goal.invariant-loop-block
