@@ -10,6 +10,8 @@ ghost use Rattle.df_check.specs.Laws.{
   DifferencesTell,
 };
 
+use df_subsets::blocks_are_ordered;
+
 /// What completes a new checker are the logs that prove their leaves from nothing decided.
 pub fn new_checkers_want_proofs()
     ensures { NewCheckersWantProofs }
@@ -56,4 +58,6 @@ pub fn closed_lines_are_whole()
 /// they are the same.
 pub fn differences_tell()
     ensures { DifferencesTell }
-{}
+{
+    blocks_are_ordered();
+}
