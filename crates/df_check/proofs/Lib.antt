@@ -2,8 +2,11 @@ pub mod Branches
 pub mod EntryFaults
 pub mod ColumnTests
 pub mod LeafLists
+pub mod LeafFaults
 pub mod CutSums
 pub mod RowFaults
 pub mod LogMoves
+pub mod DesignMoves
+pub mod DesignLeaves
 pub mod SignedSums
 pub mod BoundedSystems

@@ -1,5 +1,5 @@
 -- What a checker still wants, what it answers, and what completes it.
-use Rattle.std.specs.Prelude.{◌≡◌, ℕ, ◌+◌, ◌-◌, ◌^◌, Bool, true, false, min, List, [], ◌∷◌, length, Option, Some, None, replicate, slice_set}
+use Rattle.std.specs.Prelude.{◌≡◌, ℕ, ◌+◌, ◌-◌, ◌^◌, Bool, true, false, min, List, [], ◌∷◌, length, Option, Some, None, replicate, slice_set, nat_eq}
 use Rattle.df_walk.specs.declared.Entry.{Entry}
 use Rattle.df_walk.specs.declared.Entry.TheVariants.{Branch, Over, Under, Settled, Residue, Cut}
 use Rattle.df_walk.specs.Systems.{System}
@@ -67,12 +67,20 @@ answer_to Settled = WantsDesign
 answer_to (Residue row m) = Passed
 answer_to (Cut ws) = Passed
 
--- the fault of a leaf: first that nothing is wanted any more, then that no leaf is, then that it differs
+-- the fault of a leaf, by where it differs from the one that is wanted of decisions: first that nothing is wanted any more,
+-- then that no leaf is, then that it differs
+abbrev pub leaf_fault_by : (Decisions → Option ℕ) → Wants → Option LogFault
+leaf_fault_by differs (Logs []) = Some AfterClose
+leaf_fault_by differs (Logs (ds ∷ more)) = Some NotEntry
+leaf_fault_by differs (Leaf ds more) = difference_fault (differs ds)
+leaf_fault_by differs Failed = Some AfterClose
+
+-- the leaf of decisions is their yes columns
+abbrev pub columns_differ : List ℕ → Decisions → Option ℕ
+columns_differ columns ds = difference nat_eq columns (yes_columns ds)
+
 abbrev pub leaf_fault : Wants → List ℕ → Option LogFault
-leaf_fault (Logs []) columns = Some AfterClose
-leaf_fault (Logs (ds ∷ more)) columns = Some NotEntry
-leaf_fault (Leaf ds more) columns = difference_fault (difference columns (yes_columns ds))
-leaf_fault Failed columns = Some AfterClose
+leaf_fault wants columns = leaf_fault_by (columns_differ columns) wants
 
 -- what a leaf without fault leaves to come
 abbrev pub after_leaf : Wants → Wants
@@ -105,6 +113,12 @@ is_closed (Logs []) = true
 is_closed (Logs (ds ∷ more)) = false
 is_closed (Leaf ds more) = false
 is_closed Failed = false
+
+-- a leaf is to come next
+abbrev pub is_leaf_wanted : Wants → Bool
+is_leaf_wanted (Logs wanted) = false
+is_leaf_wanted (Leaf ds more) = true
+is_leaf_wanted Failed = false
 
 -- these entries and these leaves, lists of columns, are all that is still to come
 abbrev pub IsCompletedBy : System → Wants → List Entry → List (List ℕ) → Type 0

@@ -1,6 +1,11 @@
 pub mod Entries
+pub mod FaultTexts
 pub mod Leaves
 pub mod Checkers
 pub mod Lines
+pub mod DesignLines
 pub mod Stages
 pub mod Laws
+pub mod DesignLaws
+pub mod Chains
+pub mod ChainLaws

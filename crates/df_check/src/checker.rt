@@ -2,15 +2,17 @@
 // leaf that is closed takes decisions back
 // up to the last such branch, and goes on there with no: each decision is taken back once, so an
 // entry costs on the average what it decided.
-ghost use Rattle.std.specs.Prelude.{◌≡◌, ◌≢◌, ◌+◌, ◌<◌, ◌≤◌, [], ◌∷◌, length, slice_get, slice_index, slice_set, IfOk, true, false};
+ghost use Rattle.std.specs.Prelude.{◌≡◌, ◌+◌, ◌<◌, ◌≤◌, ℕ, nat_eq, [], ◌∷◌, length, slice_get, slice_set};
+ghost use Rattle.std.specs.Prelude.{Option, Some, None, IfOk, IfErr, true, false};
 ghost use Rattle.df_walk.specs.Systems.{IsSystem};
-ghost use Rattle.df_walk.specs.Solutions.{yes_columns};
+ghost use Rattle.df_walk.specs.Assignments.{Decisions};
 ghost use Rattle.df_runs.specs.Waiting.{wanted, waiting};
 ghost use Rattle.df_runs.specs.WeightedSums.{IsBounded};
 ghost use Rattle.df_system.specs.declared.limits.TheConstants.{MOST_COLUMNS};
 ghost use Rattle.df_check.specs.declared.TheConstants.{MOST_VALUE};
-ghost use Rattle.df_check.specs.Leaves.{difference, is_yes};
-ghost use Rattle.df_check.specs.Checkers.{Logs, begun, fault_at, after_entry, answer_to, leaf_fault, after_leaf, told, then_wants, counted, is_closed};
+ghost use Rattle.df_check.specs.Leaves.{is_yes, stands_at, difference_fault};
+ghost use Rattle.df_check.specs.Checkers.{Logs, begun, fault_at, after_entry, answer_to, columns_differ, leaf_fault, leaf_fault_by};
+ghost use Rattle.df_check.specs.Checkers.{after_leaf, told, then_wants, counted, is_closed, is_leaf_wanted};
 ghost use Rattle.df_check.specs.Stages.{AreFlagged, branches, wants_at};
 
 use crate::judge::entry_fault;
@@ -112,7 +114,7 @@ fn take_up<L: Ledger>(
 }
 
 /// Whether a column is decided yes.
-fn is_yes(decision: Option<bool>) -> bool
+pub(crate) fn is_yes(decision: Option<bool>) -> bool
     ensures { result ≡ is_yes decision }
 {
     match decision {
@@ -123,10 +125,12 @@ fn is_yes(decision: Option<bool>) -> bool
 
 /// Whether a column stands at a place of a list.
 fn stands_at(columns: &[u32], place: usize, column: u32) -> bool
-    ensures yes { result ≡ true → (place < length columns.now) × (slice_index columns.now place ≡ column) }
-    ensures no { result ≡ false → place < length columns.now → slice_index columns.now place ≢ column }
+    ensures { result ≡ stands_at nat_eq columns.now place column }
 {
-    place < columns.len() && columns[place] == column
+    match columns.get(place) {
+        Some(given) => *given == column,
+        None => false,
+    }
 }
 
 /// How many members a list of columns has in common with the yes columns from the first on, where
@@ -134,7 +138,7 @@ fn stands_at(columns: &[u32], place: usize, column: u32) -> bool
 fn leaf_difference(partial: &Partial<'_>, count: u32, columns: &[u32]) -> Option<u32>
     requires count { count ≡ length partial.now.system.columns }
     requires long { length partial.now.decisions ≡ count }
-    ensures { result ≡ difference columns.now (yes_columns partial.now.decisions) }
+    ensures { result ≡ columns_differ columns.now partial.now.decisions }
 {
     let mut place: u32 = 0;
     for column in 0..count {
@@ -149,6 +153,18 @@ fn leaf_difference(partial: &Partial<'_>, count: u32, columns: &[u32]) -> Option
         Some(place)
     } else {
         None
+    }
+}
+
+/// The fault of a leaf that differs so.
+pub(crate) fn difference_fault(difference: Option<u32>) -> Option<LogFault>
+    ensures { result ≡ difference_fault difference }
+{
+    match difference {
+        Some(place) => Some(LogFault::DesignDiffers {
+            place: i64::from(place),
+        }),
+        None => None,
     }
 }
 
@@ -251,18 +267,57 @@ impl<'m> SystemChecker<'m> {
         ensures answer { result ≡ told (leaf_fault self.old.wants columns.now) Fed.Ok }
         ensures value { self.new ≡ record self.old { wants = then_wants (leaf_fault self.old.wants columns.now) (after_leaf self.old.wants); leaves = counted (leaf_fault self.old.wants columns.now) self.old.leaves } }
     {
-        self.feed_leaf_counted::<Brand>(columns, Blank::new(1))
+        let fault = self.leaf_fault(columns);
+        self.end_leaf(fault)
     }
 
-    fn feed_leaf_counted<L: Ledger>(&mut self, columns: &[u32], blank: Blank) -> Fed
+    /// The fault of a leaf, if it has one.
+    fn leaf_fault(&self, columns: &[u32]) -> Option<LogFault>
+        ensures { result ≡ leaf_fault self.now.wants columns.now }
+    {
+        match self.leaf_awaited() {
+            Ok(partial) => {
+                difference_fault(leaf_difference(partial, self.system.columns(), columns))
+            }
+            Err(fault) => Some(fault),
+        }
+    }
+
+    /// The decisions whose leaf is wanted. The error is the fault of any leaf where none is.
+    pub(crate) fn leaf_awaited(&self) -> Result<&Partial<'m>, LogFault>
+        ensures system { IfOk result (λ partial. partial.now.system ≡ self.now.system) }
+        ensures long { IfOk result (λ partial. length partial.now.decisions ≡ length self.now.system.columns) }
+        ensures wanted { IfOk result (λ partial. (differs : Decisions → Option ℕ)
+            → leaf_fault_by differs self.now.wants ≡ difference_fault (differs partial.now.decisions)) }
+        ensures refused { IfErr result (λ fault. (differs : Decisions → Option ℕ)
+            → leaf_fault_by differs self.now.wants ≡ Some fault) }
+    {
+        match self.stage {
+            Stage::AtLog => Err(LogFault::NotEntry),
+            Stage::AtLeaf => Ok(&self.partial),
+            Stage::Done | Stage::Broken => Err(LogFault::AfterClose),
+        }
+    }
+
+    /// Takes a leaf with its fault, if it has one: where it has none, a leaf is wanted.
+    pub(crate) fn end_leaf(&mut self, fault: Option<LogFault>) -> Fed
+        requires { fault ≡ None → is_leaf_wanted self.old.wants ≡ true }
+        ensures answer { result ≡ told fault Fed.Ok }
+        ensures value { self.new ≡ record self.old { wants = then_wants fault (after_leaf self.old.wants); leaves = counted fault self.old.leaves } }
+    {
+        self.end_leaf_counted::<Brand>(fault, Blank::new(1))
+    }
+
+    fn end_leaf_counted<L: Ledger>(&mut self, fault: Option<LogFault>, blank: Blank) -> Fed
         requires name { blank.name ≡ L.name }
         requires parts { blank.parts ≡ L.parts }
         requires some { 0 < blank.parts }
-        ensures answer { result ≡ told (leaf_fault self.old.wants columns.now) Fed.Ok }
-        ensures value { self.new ≡ record self.old { wants = then_wants (leaf_fault self.old.wants columns.now) (after_leaf self.old.wants); leaves = counted (leaf_fault self.old.wants columns.now) self.old.leaves } }
+        requires wanted { fault ≡ None → is_leaf_wanted self.old.wants ≡ true }
+        ensures answer { result ≡ told fault Fed.Ok }
+        ensures value { self.new ≡ record self.old { wants = then_wants fault (after_leaf self.old.wants); leaves = counted fault self.old.leaves } }
     {
         let mut steps = Steps::<L>::new(blank);
-        match self.leaf_fault(columns) {
+        match fault {
             Some(fault) => {
                 self.stage = Stage::Broken;
                 Fed::Fault(fault)
@@ -277,24 +332,6 @@ impl<'m> SystemChecker<'m> {
                 self.leaves = self.leaves.saturating_add(1);
                 Fed::Ok
             }
-        }
-    }
-
-    /// The fault of a leaf, if it has one.
-    fn leaf_fault(&self, columns: &[u32]) -> Option<LogFault>
-        ensures { result ≡ leaf_fault self.now.wants columns.now }
-    {
-        match self.stage {
-            Stage::AtLog => Some(LogFault::NotEntry),
-            Stage::AtLeaf => {
-                match leaf_difference(&self.partial, self.system.columns(), columns) {
-                    Some(place) => Some(LogFault::DesignDiffers {
-                        place: place as i64,
-                    }),
-                    None => None,
-                }
-            }
-            Stage::Done | Stage::Broken => Some(LogFault::AfterClose),
         }
     }
 

@@ -11,6 +11,7 @@ ghost use Rattle.df_check.specs.Laws.{
 };
 
 use df_runs::laws::logs_are_one;
+use df_subsets::blocks_are_ordered;
 use df_walk::laws::logs_are_complete;
 
 /// What completes a new checker are the logs that prove their leaves from nothing decided.
@@ -66,4 +67,6 @@ pub fn closed_lines_are_whole()
 /// they are the same.
 pub fn differences_tell()
     ensures { DifferencesTell }
-{}
+{
+    blocks_are_ordered();
+}

@@ -1,22 +1,27 @@
-//! The checker of a log, a line at a time, over any system: what it still wants, and the first
-//! fault with its numbers. It knows no search, no text and no design.
-//! It stands on `df_system`, whose `Partial` keeps the needs and caps of the decisions, and on the
-//! definitions and laws of `df_walk` and `df_runs`.
-//! The crates above feed a `SystemChecker`. They may rest on its clauses, and on the laws: it is
-//! closed exactly where what it was fed is one log that proves its leaves, in any order of branching.
-//! Laws for the rooms above: those of `laws`.
-//! An entry costs the time of its row's numbers or its column's cells, and of what it takes back; a
-//! cut, a residue or a leaf may pass all columns. All memory is taken in `SystemChecker::new`.
+//! The checker of a log, a line at a time: what it still wants, and the first fault with its numbers. It knows no search.
+//! A `SystemChecker` is over any system, with columns as leaves; a `Checker` over an orbit matrix, with design lines.
+//! It stands on `df_system`, whose `Partial` keeps the needs and caps of the decisions, on `df_matrix` and `df_list`, and on the
+//! definitions and laws of `df_walk`, `df_runs`, `df_correspondence` and `df_dossier`.
+//! The crates above feed a checker, and print a fault by its `text`. They may rest on the clauses, and on the laws: a checker is
+//! closed exactly where what it was fed is one log that proves its leaves, in any order of branching, and the designs of a closed
+//! one are all that its problem asks for.
+//! Laws for the rooms above: those of `laws` and of `design_laws`.
+//! An entry costs the time of its row's numbers or its column's cells, and of what it takes back; a cut, a residue, a leaf or a
+//! design line may pass all columns. All memory is taken in `SystemChecker::new` and `Checker::new`.
 #![tactic(auto)]
 
 pub mod checker;
 mod cuts;
+pub mod design_checker;
+pub mod design_laws;
+mod fault_texts;
 mod judge;
 pub mod laws;
 #[cfg(test)]
 mod tests;
 
 pub use checker::SystemChecker;
+pub use design_checker::Checker;
 pub use df_walk::{CutRow, Entry};
 
 /// Out of memory.
@@ -26,7 +31,7 @@ pub type OutOfMemory = std::alloc::AllocError;
 pub const MOST_VALUE: u32 = 8_000_000;
 
 /// Why a log is refused. `OpenAtEnd`, `ChainBroken` and `SourceDiffers` are of chains of dossiers:
-/// no `SystemChecker` answers them.
+/// no checker of one log answers them.
 #[derive(Clone, Copy, Debug, Eq, PartialEq)]
 pub enum LogFault {
     /// A branch at a number that is no column's.
@@ -48,7 +53,7 @@ pub enum LogFault {
     NotCut { least: i64, greatest: i64 },
     /// Not all needs are 0: the least row whose need isn't, and its need.
     NotSettled { row: u32, need: i64 },
-    /// A leaf other than the wanted one: how many members the two have in common from the first on.
+    /// A leaf or a design line other than the wanted one: how many members the two have in common from the first on.
     DesignDiffers { place: i64 },
     /// An entry where a leaf must follow.
     DesignWanted,

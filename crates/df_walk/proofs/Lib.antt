@@ -1,4 +1,5 @@
 pub mod VectorFilters
+pub mod VectorLengths
 pub mod RowBounds
 pub mod RowTests
 pub mod EntryLaws

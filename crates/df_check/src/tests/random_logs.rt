@@ -10,18 +10,18 @@ use std::marker::Brand;
 use std::process::Abort;
 use std::sync::ledger::{Blank, Ledger};
 
-const ROWS: usize = 3;
+pub(super) const ROWS: usize = 3;
 
-const COLUMNS: usize = 4;
+pub(super) const COLUMNS: usize = 4;
 
 /// Plain numbers that look random.
 #[derive(Drop)]
-struct Numbers {
-    state: u64,
+pub(super) struct Numbers {
+    pub(super) state: u64,
 }
 
 impl Numbers {
-    fn next(&mut self, below: u32) -> u32
+    pub(super) fn next(&mut self, below: u32) -> u32
         requires { 0 < below }
         ensures { result < below }
     {
@@ -34,13 +34,13 @@ impl Numbers {
 }
 
 /// A decision for each column.
-type Decisions = [Option<bool>; COLUMNS];
+pub(super) type Decisions = [Option<bool>; COLUMNS];
 
 /// A system, each column's entries after those before it.
 #[derive(Clone, Copy)]
-struct Plain {
-    targets: [u32; ROWS],
-    entries: [u32; ROWS * COLUMNS],
+pub(super) struct Plain {
+    pub(super) targets: [u32; ROWS],
+    pub(super) entries: [u32; ROWS * COLUMNS],
 }
 
 impl Plain {
@@ -173,7 +173,11 @@ fn cut_fault(plain: &Plain, decisions: &Decisions, rows: &[CutRow]) -> Option<Lo
 }
 
 /// The fault of an entry by its definition.
-fn plain_fault(plain: &Plain, decisions: &Decisions, line: Line<'_>) -> Option<LogFault> {
+pub(super) fn plain_fault(
+    plain: &Plain,
+    decisions: &Decisions,
+    line: Line<'_>,
+) -> Option<LogFault> {
     match line {
         Line::Branch(column) => branch_fault(decisions, column),
         Line::Over(row) => {
@@ -206,7 +210,7 @@ fn random_line<'s>(numbers: &mut Numbers, rows: &'s [CutRow]) -> Line<'s> {
 }
 
 /// The yes columns.
-fn yes_columns(decisions: &Decisions) -> ArrayVec<u32, COLUMNS> {
+pub(super) fn yes_columns(decisions: &Decisions) -> ArrayVec<u32, COLUMNS> {
     let mut columns = ArrayVec::new();
     for column in 0..COLUMNS {
         if decisions[column] == Some(true) && !columns.is_full() {
@@ -217,7 +221,7 @@ fn yes_columns(decisions: &Decisions) -> ArrayVec<u32, COLUMNS> {
 }
 
 /// With a column decided.
-fn decided(decisions: &Decisions, column: u32, yes: bool) -> Decisions {
+pub(super) fn decided(decisions: &Decisions, column: u32, yes: bool) -> Decisions {
     let mut next = *decisions;
     for place in 0..COLUMNS {
         if place == column as usize {
@@ -228,7 +232,7 @@ fn decided(decisions: &Decisions, column: u32, yes: bool) -> Decisions {
 }
 
 /// How many of the 16 vectors are solutions.
-fn count_solutions(plain: &Plain) -> u64 {
+pub(super) fn count_solutions(plain: &Plain) -> u64 {
     let mut count: u64 = 0;
     for vector in 0..16u32 {
         let mut decisions = [None; COLUMNS];
