@@ -16,13 +16,13 @@ use Rattle.df_walk.proofs.NodeVisits.{start_of}
 use Rattle.df_runs.specs.Runs.{Run, run_of, rest_at, load_at, EndsAt, IsRunFrom}
 use Rattle.df_runs.specs.Chains.{chain_run, legs_of}
 use Rattle.df_runs.specs.Statements.{RunsAreWhole, ChainsAreRuns}
-use Rattle.df_lang.specs.Problems.{Stated, IsStated}
+use Rattle.df_lang.specs.Problems.{Stated, IsStated, point_count}
 use Rattle.df_lang.specs.RulesLaw.{SourcesKeepTheirRules}
 use Rattle.df_kramer_mesner.specs.Laws.{OrbitSystemsAreSystems}
 use Rattle.df_kramer_mesner.specs.OrbitSystems.{orbit_system, columns_of}
 use Rattle.df_correspondence.specs.Designs.{asked, design}
 use Rattle.df_correspondence.specs.Laws.{DesignsAreSolutions}
-use Rattle.df_matrix.specs.Limits.{passed_by, or_else, subset_limit_of, subset_limit, column_limit, entry_limit, limit_passed}
+use Rattle.df_matrix.specs.Limits.{block_count, only_size, passed_by, or_else, subset_limit_of, subset_limit, column_limit, entry_limit, limit_passed}
 use Rattle.df_matrix.specs.declared.matrix.MatrixError.{MatrixError}
 use Rattle.df_matrix.specs.declared.matrix.MatrixError.TheVariants as matrix
 use Rattle.df_matrix.specs.declared.matrix.TheConstants.{MOST_COLUMNS}
@@ -65,7 +65,7 @@ few_columns s h = by (nat_lt MOST_COLUMNS (length (columns_of s))) refl
     by false is = ltb-false MOST_COLUMNS (length (columns_of s)) is
     by true is =
         let columns : column_limit s ≡ Some (matrix.TooManyColumns (length (columns_of s))) = rw is refl in
-        let none = past_subsets s.version _ _ _ (or_else (column_limit s) (entry_limit s)) h in
+        let none = past_subsets s.version (point_count s) (only_size s) (block_count s) (or_else (column_limit s) (entry_limit s)) h in
         absurd (let same = ap (λ o. option_and_then limit_of (or_else o (entry_limit s))) (sym columns) ∙ none in cc)
 
 module _ (runs : RunsAreWhole) (chains : ChainsAreRuns) (reasons : PathsHaveReasons) (paths : PathsAreRead) (read_back : SpentTextsReadBack) (rules : Rules) (s : Stated) (kept : IsStated s) (system : IsSystem (orbit_system s)) (fits : matrix_limit s ≡ None) where

@@ -50,15 +50,8 @@ fn follow(
     for _ in 0..100 {
         let number = format!(in alloc; "{budget}")?;
         let words = ["resume", "--budget", number.as_str(), "--log"];
-        let taken = if logged { 4 } else { 3 };
-        let (status, _, sink) = run_over(
-            alloc,
-            &words[..taken],
-            input.as_bytes(),
-            4096,
-            0,
-            65_536,
-        )?;
+        let asked = if logged { &words[..] } else { &words[..3] };
+        let (status, _, sink) = run_over(alloc, asked, input.as_bytes(), 4096, 0, 65_536)?;
         let text = std::str::from_utf8(sink.bytes.as_slice()).unwrap_or("");
         let (log, end) = log_and_end(text).unwrap_or(("", ""));
         chain.log.push_str(log)?;
@@ -92,9 +85,9 @@ fn assert_chains(
     let whole = follow(rt, start.as_str(), logged, ALL, ALL)?;
     assert_eq!(rt; whole.nodes, nodes, "at {source}");
     assert_eq!(rt; whole.designs, designs, "at {source}");
-    for first in 1..=nodes {
+    for before in 0..nodes {
         for later in [1u64, 2, 3, ALL] {
-            let chain = follow(rt, start.as_str(), logged, first, later)?;
+            let chain = follow(rt, start.as_str(), logged, before + 1, later)?;
             assert_eq!(rt; chain.log.as_str(), whole.log.as_str(), "at {source}");
             assert_eq!(rt; chain.nodes, nodes, "at {source}");
             assert_eq!(rt; chain.designs, designs, "at {source}");
