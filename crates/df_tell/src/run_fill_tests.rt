@@ -1,5 +1,5 @@
-// A text that is longer than the buffer in which its lines are gathered, written to sinks of each
-// room, and to sinks that fail at each call: another program printed it.
+// A text that is longer than the buffer in which its lines are gathered, as another program printed it: written to sinks
+// that fail at each call, and to sinks whose room ends near where a call ends.
 ghost use Rattle.std.specs.Prelude.{◌≡◌, ◌<◌};
 
 use crate::{RunEnd, Shown, write_run};
@@ -119,42 +119,52 @@ fn matrix_of(rt: &impl Abort, alloc: Global) -> OrbitMatrix {
     build(alloc, &problem).expect(rt, "a matrix")
 }
 
-#[test]
-fn each_room_takes_the_front_of_a_long_text(rt: HostRuntime) {
-    let matrix = matrix_of(&rt, rt.alloc());
+// A sink of this room takes the front of the text, and where it has room for it the whole.
+fn assert_room(rt: &impl Abort, alloc: Global, matrix: &OrbitMatrix, room: usize) {
     let text = TEXT.as_bytes();
-    for room in 0..text.len() + 2 {
-        let (out, end) = run_with(&rt, rt.alloc(), &matrix, room, None);
-        let front = text.get(..room.min(text.len())).expect(&rt, "a front");
-        assert_eq!(rt; out.bytes.as_slice(), front);
-        let whole = if room < text.len() {
-            Err(WriteFault)
-        } else {
-            Ok(RunEnd::Spent)
-        };
-        assert_eq!(rt; end, whole);
-    }
+    let (out, end) = run_with(rt, alloc, matrix, room, None);
+    let front = text.get(..room.min(text.len())).expect(rt, "a front");
+    assert_eq!(rt; out.bytes.as_slice(), front);
+    let whole = if room < text.len() {
+        Err(WriteFault)
+    } else {
+        Ok(RunEnd::Spent)
+    };
+    assert_eq!(rt; end, whole);
+}
+
+// A sink that fails at this call takes a front of the text, which is counted.
+fn front_before(rt: &impl Abort, alloc: Global, matrix: &OrbitMatrix, call: u64) -> usize {
+    let text = TEXT.as_bytes();
+    let (out, end) = run_with(rt, alloc, matrix, text.len(), Some(call));
+    let count = out.bytes.len();
+    assert_eq!(rt; end, Err(WriteFault));
+    assert_eq!(rt; (out.calls, out.faults), (call, 1));
+    assert!(rt; count < text.len());
+    assert_eq!(rt;
+        out.bytes.as_slice(),
+        text.get(..count).expect(rt, "a front")
+    );
+    count
 }
 
 #[test]
-fn each_fault_stops_a_long_text(rt: HostRuntime) {
-    let matrix = matrix_of(&rt, rt.alloc());
+fn a_long_text_ends_with_the_room_and_at_each_fault(rt: HostRuntime) {
+    let alloc = rt.alloc();
+    let matrix = matrix_of(&rt, alloc);
     let text = TEXT.as_bytes();
-    let (whole, _) = run_with(&rt, rt.alloc(), &matrix, text.len(), None);
-    let calls = whole.calls.min(1_000);
-    assert!(rt; calls > 3);
+    let (whole, _) = run_with(&rt, alloc, &matrix, text.len(), None);
+    assert_room(&rt, alloc, &matrix, text.len());
+    assert_room(&rt, alloc, &matrix, text.len() + 1);
+    assert!(rt; whole.calls > 10);
     let mut last = 0;
-    for call in 1..calls + 1 {
-        let (out, end) = run_with(&rt, rt.alloc(), &matrix, text.len(), Some(call));
-        let count = out.bytes.len();
-        assert_eq!(rt; end, Err(WriteFault));
-        assert_eq!(rt; (out.calls, out.faults), (call, 1));
-        assert!(rt; count < text.len());
-        assert_eq!(rt;
-            out.bytes.as_slice(),
-            text.get(..count).expect(&rt, "a front")
-        );
+    for call in 1..whole.calls.min(1_000) + 1 {
+        let count = front_before(&rt, alloc, &matrix, call);
         assert!(rt; call == 1 || last < count);
         last = count;
+        for more in 0..5usize {
+            let room = count.saturating_add(more).saturating_sub(2);
+            assert_room(&rt, alloc, &matrix, room);
+        }
     }
 }

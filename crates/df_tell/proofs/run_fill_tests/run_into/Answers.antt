@@ -4,8 +4,8 @@ use Rattle.df_kramer_mesner.specs.OrbitSystems.{orbit_system}
 use Rattle.df_design.specs.RemainingDesigns.{Remaining}
 use Rattle.df_tell.proofs.run_fill_tests.run_into.Goals as goal
 
-pub write_run-end-requires : goal.write_run-end-requires
-write_run-end-requires g c =
+pub write_run-requires : goal.write_run-requires
+write_run-requires g c =
     let is = c.in-Ok.ensures.value in
     let same = c.problem-problem.ensures in record {
       problem = ap (λ (r : Remaining). r.problem) is ∙ sym same;
