@@ -43,11 +43,17 @@ pub use spent::{Spent, SpentError, read_spent};
 pub use stream::{StreamError, read_spent_stream};
 
 #[cfg(test)]
+mod anyhow_tests;
+#[cfg(test)]
 mod design_tests;
 #[cfg(test)]
 mod dossier_tests;
 #[cfg(test)]
+mod prefix_tests;
+#[cfg(test)]
 mod round_tests;
+#[cfg(test)]
+mod stream_tests;
 #[cfg(test)]
 mod tests;
 
