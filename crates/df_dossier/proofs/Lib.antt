@@ -13,3 +13,4 @@ pub mod EndsBack
 pub mod LinesShort
 pub mod StreamSteps
 pub mod PieceSteps
+pub mod DossierSteps

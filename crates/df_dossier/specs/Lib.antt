@@ -12,3 +12,4 @@ pub mod Spent
 pub mod DossierTexts
 pub mod SpentStreams
 pub mod Pieces
+pub mod DossierPieces

@@ -16,6 +16,7 @@ mod lengths;
 mod line_reader;
 mod numbers;
 mod paths;
+mod piece_laws;
 mod put;
 mod source_text;
 mod spent;
@@ -36,6 +37,7 @@ pub use lengths::{
 pub use line_reader::LineReader;
 pub use numbers::{MOST_COUNT, MOST_NUMBER};
 pub use paths::{PathRead, read_path};
+pub use piece_laws::pieces_are_those_of_dossiers;
 pub use put::{
     put_design_block, put_design_start, put_end, put_entry, put_path_column, put_path_start,
 };
