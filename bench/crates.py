@@ -47,3 +47,12 @@ def build(folder, program, names, text, proofs, words):
     print("proving and building; this takes some minutes", file=sys.stderr)
     subprocess.run(["rt", "run", "--", *words], cwd=own, check=True, stdin=subprocess.DEVNULL, stdout=sys.stderr)
     return own / "out" / program
+
+
+def build_loop(folder, name, text):
+    """Builds a program in C of this text, for a comparison. Gives its file, or None where gcc isn't there."""
+    if shutil.which("gcc") is None:
+        return None
+    (folder / f"{name}.c").write_text(text)
+    subprocess.run(["gcc", "-O2", "-o", folder / name, folder / f"{name}.c"], check=True)
+    return folder / name

@@ -11,7 +11,7 @@ and by `entries` each of them as an entry too, by the divisor's rules; it times 
 and its own reading of an entry, does the same work, where gcc is there. Each time is the least of three runs. The memory is
 the most that a process held, looked up each hundredth of a second.
 """
-import argparse, pathlib, random, shutil, subprocess, sys, tempfile, time
+import argparse, pathlib, random, subprocess, sys, tempfile, time
 
 import crates
 
@@ -224,19 +224,7 @@ def write_lines(path, lines):
 
 
 def build(folder):
-    own = crates.copy(folder, "lines", ["df_io", "df_dossier"])
-    (own / "src" / "main.rt").write_text(PROGRAM)
-    print("proving and building; this takes some minutes", file=sys.stderr)
-    subprocess.run(["rt", "run"], cwd=own, check=True, stdin=subprocess.DEVNULL, stdout=sys.stderr)
-    return own / "out" / "lines"
-
-
-def build_loop(folder):
-    if shutil.which("gcc") is None:
-        return None
-    (folder / "loop.c").write_text(LOOP)
-    subprocess.run(["gcc", "-O2", "-o", folder / "loop", folder / "loop.c"], check=True)
-    return folder / "loop"
+    return crates.build(folder, "lines", ["df_io", "df_dossier"], PROGRAM, {}, [])
 
 
 def held_by(process):
@@ -275,7 +263,7 @@ def main():
     with tempfile.TemporaryDirectory() as name:
         folder = pathlib.Path(name)
         program = words.program or build(folder)
-        loop = build_loop(folder)
+        loop = crates.build_loop(folder, "loop", LOOP)
         path = folder / "log"
         lines = write_lines(path, words.lines)
         print(f"{'':>8} {'':>7} {'lines':>9} {'bytes':>10} {'seconds':>8} {'ns/line':>8} {'memory':>9}")

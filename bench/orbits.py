@@ -78,11 +78,7 @@ fn main(rt: HostRuntime) {
 '''
 
 def build(folder):
-    own = crates.copy(folder, "orbits", CRATES)
-    (own / "src" / "main.rt").write_text(PROGRAM)
-    print("proving and building; this takes some minutes", file=sys.stderr)
-    subprocess.run(["rt", "run"], cwd=own, check=True, stdout=sys.stderr)
-    return own / "out" / "orbits"
+    return crates.build(folder, "orbits", CRATES, PROGRAM, {}, [])
 
 
 def all_maps(mult, fixed, factors):

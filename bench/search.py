@@ -19,7 +19,7 @@ its making: the least of three runs. OTHER is another program with a command `so
 the system as it is made of its entries, the search as it is made of the system, and the walk, by `next` and the rules with divisors.
 The least of three runs.
 """
-import argparse, pathlib, random, shutil, subprocess, sys, tempfile, time
+import argparse, pathlib, random, subprocess, sys, tempfile, time
 
 import crates
 
@@ -477,25 +477,6 @@ int main(int argc, char **argv) {
 '''
 
 
-def build(folder, name, names, text, proofs, word):
-    own = crates.copy(folder, name, names)
-    (own / "src" / "main.rt").write_text(text)
-    for function, proof in proofs.items():
-        (own / "proofs" / function).mkdir(parents=True)
-        (own / "proofs" / function / "Invariants.antt").write_text(proof)
-    print("proving and building; this takes some minutes", file=sys.stderr)
-    subprocess.run(["rt", "run", "--", word], cwd=own, check=True, stdin=subprocess.DEVNULL, stdout=sys.stderr)
-    return own / "out" / name
-
-
-def build_loops(folder):
-    if shutil.which("gcc") is None:
-        return None
-    (folder / "walk.c").write_text(LOOPS)
-    subprocess.run(["gcc", "-O2", "-o", folder / "walk", folder / "walk.c"], check=True)
-    return folder / "walk"
-
-
 def seconds(program, words):
     start = time.perf_counter()
     subprocess.run([program, *map(str, words)], check=True)
@@ -601,11 +582,11 @@ def main():
     with tempfile.TemporaryDirectory() as name:
         folder = pathlib.Path(name)
         if given.table in (None, "random"):
-            program = given.program or build(folder / "random", "searches", CRATES, PROGRAM, PROOFS, "0")
-            table(program.resolve(), build_loops(folder))
+            program = given.program or crates.build(folder / "random", "searches", CRATES, PROGRAM, PROOFS, ["0"])
+            table(program.resolve(), crates.build_loop(folder, "walk", LOOPS))
         if given.table == "random":
             return
-        race = (given.race or build(folder / "race", "race", ["df_io", *CRATES], RACE, RACE_PROOFS, "0")).resolve()
+        race = (given.race or crates.build(folder / "race", "race", ["df_io", *CRATES], RACE, RACE_PROOFS, ["0"])).resolve()
         if given.table in (None, "matrices"):
             maker = given.maker or crates.TOP / "crates/df_main/out/df_main"
             matrices(race, maker.resolve(), given.beside and given.beside.resolve())

@@ -4,7 +4,7 @@ use Rattle.std.specs.Prelude.{reverse, IsNone}
 use Rattle.std.proofs.lemmas.List.{take_more, take_more_set, reverse-append, set-set}
 use Rattle.df_walk.specs.Assignments.{Decisions}
 use Rattle.df_runs.specs.Waiting.{Standing, waiting, wanted}
-use Rattle.df_runs.proofs.WantedMoves.{wanted_moves}
+use Rattle.df_runs.specs.Statements.{WantedIsKept}
 use Rattle.df_system.specs.Trails.{Assigned}
 use Rattle.df_check.specs.Stages.{standings, branches, AreFlagged}
 
@@ -35,10 +35,10 @@ turned a b d flags k c some within is trail decisions left =
     rw (less a b flags k c true some within is trail, e, left, decisions, set-set a.decisions c None (Some false), set-set a.decisions c (Some false) None)
 
 -- a branch is taken up
-pub taken : (a d : Assigned) (flags : List Bool) (k c : ℕ) → k < length flags → slice_get a.decisions c ≡ Some None → d ≡ record a { decisions = set a.decisions c (Some true); trail = c ∷ a.trail } → wanted d.decisions (branches d (set flags k true) (k + 1)) ≡ set a.decisions c (Some true) ∷ set a.decisions c (Some false) ∷ waiting a.decisions (branches a flags k)
-taken a d flags k c within free is =
+pub taken : WantedIsKept → (a d : Assigned) (flags : List Bool) (k c : ℕ) → k < length flags → slice_get a.decisions c ≡ Some None → d ≡ record a { decisions = set a.decisions c (Some true); trail = c ∷ a.trail } → wanted d.decisions (branches d (set flags k true) (k + 1)) ≡ set a.decisions c (Some true) ∷ set a.decisions c (Some false) ∷ waiting a.decisions (branches a flags k)
+taken moves a d flags k c within free is =
     let e : branches d (set flags k true) (k + 1) ≡ record { column = c; no_to_come = true } ∷ branches a flags k = more a d flags k c true within (ap (λ v. v.trail) is) in
-    rw (e, is) ((wanted_moves a.decisions c (branches a flags k)).take free)
+    rw (e, is) ((moves a.decisions c (branches a flags k)).take free)
 
 -- without flags nothing waits
 no_flags : (columns : List ℕ) → standings columns [] ≡ []

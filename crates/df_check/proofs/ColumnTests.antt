@@ -3,25 +3,14 @@ use Rattle.std.proofs.Common.{◌≡◌, ℕ, suc, zero, ◌+◌, ◌<◌, ◌�
 use Rattle.std.specs.Prelude.{not, ◌&&◌, cond, find, nat_lt}
 use Rattle.std.specs.List.{list_all, range_with_len}
 use Rattle.std.proofs.lemmas.Bool.{cases_eq, cases_Bool, true≢false}
+use Rattle.df_lists.proofs.RangeLaws.{find_first, find_none}
 use Rattle.df_walk.specs.Systems.{System, entries}
 use Rattle.df_walk.specs.Assignments.{Decisions, open_values, is_multiple}
 use Rattle.df_walk.proofs.EntryLaws.{length-entries}
 use Rattle.df_check.specs.Entries.{is_undecided, spoils, first_spoiling}
 
-find_at : (p : ℕ → Bool) (a n r : ℕ) → a ≤ r → r < a + n → p r ≡ true → ((k : ℕ) → a ≤ k → k < r → p k ≡ false) → find p (range_with_len a n) ≡ Some r
-find_at p a zero r low high here before = absurd (omega arith)
-find_at p a (suc n) r low high here before =
-    elim (cases_eq r a) [
-      | inl same ↦ let first : p a ≡ true = rw (← same) here in rw (first, same)
-      | inr other ↦ let first : p a ≡ false = before a (omega arith) (omega arith) in rw first (find_at p (a + 1) n r (omega arith) (omega arith) here (λ k l h. before k (omega arith) h))
-    ]
-
-find_none : (p : ℕ → Bool) (a n : ℕ) → ((k : ℕ) → a ≤ k → k < a + n → p k ≡ false) → find p (range_with_len a n) ≡ None
-find_none p a zero h = refl
-find_none p a (suc n) h = let first : p a ≡ false = h a (omega arith) (omega arith) in rw first (find_none p (a + 1) n (λ k l b. h k (omega arith) (omega arith)))
-
 pub first_is : (s : System) (ds : Decisions) (m row column : ℕ) → column < length s.columns → spoils s ds m row column ≡ true → ((k : ℕ) → k < column → spoils s ds m row k ≡ false) → first_spoiling s ds m row ≡ Some column
-first_is s ds m row column within here before = find_at (spoils s ds m row) 0 (length s.columns) column (omega arith) (omega arith) here (λ k l h. before k h)
+first_is s ds m row column within here before = find_first (spoils s ds m row) 0 (length s.columns) column (omega arith) (omega arith) here (λ k l h. before k h)
 
 pub none_spoils : (s : System) (ds : Decisions) (m row : ℕ) → ((k : ℕ) → k < length s.columns → spoils s ds m row k ≡ false) → first_spoiling s ds m row ≡ None
 none_spoils s ds m row h = find_none (spoils s ds m row) 0 (length s.columns) (λ k l b. h k (omega arith))

@@ -13,15 +13,10 @@ use Rattle.df_walk.specs.Assignments.{Decisions, open_values, taken, cap, need}
 use Rattle.df_walk.specs.Cuts.{weighted_need, weight_of, negatives, positives, open_weights, least_weight, greatest_weight}
 use Rattle.df_walk.proofs.EntryLaws.{entry_is}
 use Rattle.df_walk.proofs.DecisionLaws.{sums_bounded}
+use Rattle.df_walk.proofs.SignedNumbers.{abs_add, abs_less}
 use Rattle.df_runs.specs.WeightedSums.{IsBounded}
 use Rattle.df_check.specs.Entries.{are_rows}
 use Rattle.df_check.proofs.LeafLists.{here}
-
-pub abs_add : (a b : ℤ) → unsigned_abs (a +ℤ b) ≤ unsigned_abs a + unsigned_abs b
-abs_add (pos a) (pos b) = omega arith
-abs_add (pos a) (negsuc b) = omega (arith, ints)
-abs_add (negsuc a) (pos b) = omega (arith, ints)
-abs_add (negsuc a) (negsuc b) = omega arith
 
 pub add_turns : (a b : ℤ) → a +ℤ b ≡ b +ℤ a
 add_turns a b = omega (arith, ints)
@@ -41,14 +36,6 @@ pub row_there : (n : ℕ) (ws : List CutRow) (k : ℕ) (d : CutRow) → list_all
 row_there n [] k d h within = absurd (omega arith)
 row_there n (w ∷ ws) zero d h within = ltb-true w.row n (and_parts (nat_lt w.row n) (list_all (λ w. nat_lt w.row n) ws) h).0
 row_there n (w ∷ ws) (suc k) d h within = row_there n ws k d (and_parts (nat_lt w.row n) (list_all (λ w. nat_lt w.row n) ws) h).1 (omega arith)
-
-abs_neg : (a : ℤ) → unsigned_abs (neg_ℤ a) ≡ unsigned_abs a
-abs_neg (pos zero) = refl
-abs_neg (pos (suc n)) = refl
-abs_neg (negsuc n) = refl
-
-abs_less : (t k : ℕ) → unsigned_abs (pos t -ℤ pos k) ≤ t + k
-abs_less t k = omega (arith, abs_add (pos t) (neg_ℤ (pos k)), abs_neg (pos k))
 
 -- the bound on a need
 pub need_small : (s : System) (ds : Decisions) (row : ℕ) → IsBounded s 65536 8000000 8000000 → row < length s.targets → unsigned_abs (need s ds row) ≤ 524296000000

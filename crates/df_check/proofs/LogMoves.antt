@@ -13,15 +13,13 @@ use Rattle.df_check.specs.declared.LogFault.TheVariants.{NotOver, NotUnder, NotR
 use Rattle.std.specs.Prelude.{pos}
 use Rattle.df_check.specs.Entries.{entry_fault, column_or_none, first_spoiling}
 use Rattle.df_check.specs.Leaves.{difference, difference_fault}
-use Rattle.df_runs.proofs.ChainRuns.{one_log, one_log_completes}
+use Rattle.df_runs.specs.Statements.{LogsAreOne}
 use Rattle.std.specs.Prelude.{length, map, replicate}
-use Rattle.std.proofs.lemmas.List.{length-replicate}
 use Rattle.std.specs.List.Sorted.{IsPermutation}
 use Rattle.df_walk.specs.Systems.{IsSystem}
 use Rattle.df_walk.specs.Solutions.{solutions, chosen_columns}
 use Rattle.df_walk.specs.Logs.{Proves}
-use Rattle.df_walk.proofs.LogSoundness.{Proves-sound}
-use Rattle.df_walk.proofs.PaddedPaths.{solutions_with-none}
+use Rattle.df_walk.specs.LawStatements.{LogsAreComplete}
 use Rattle.df_check.specs.Checkers.{begun, undecided, Wants, Logs, Leaf, Failed, fault_at, wants_after, after_entry, leaf_fault, after_leaf, then_wants, is_closed, IsCompletedBy}
 use Rattle.df_check.specs.Lines.{Line, Given, Chosen, entries_of, leaves_of, AreInOrder, after_line, after_lines}
 use Rattle.df_check.proofs.EntryFaults.{row_holds, row_has_none, branch_holds, settled_holds, settled_has_none, cut_holds, cut_has_none}
@@ -191,14 +189,16 @@ closed_by s (ds ∷ more) (Given Settled ∷ Chosen columns ∷ lines) order h =
 pub logs_closed : (s : System) (wanted : List Decisions) (lines : List Line) → (is_closed (after_lines s (Logs wanted) lines) ≡ true) ↔ (AreInOrder lines × Completes s wanted (entries_of lines) (leaves_of lines))
 logs_closed s wanted lines = (λ h. closes s wanted lines h, λ h. closed_by s wanted lines h.0 h.1)
 
-pub new_wants : (s : System) (E : List Entry) (L : List (List ℕ)) → IsCompletedBy s (begun s).wants E L ↔ Proves s (undecided s) E L
-new_wants s E L =
-    (λ h. one_log s (undecided s) E L (Completes-from_AreLogs s (undecided s ∷ []) E L h), λ h. AreLogs-from_Completes s (undecided s ∷ []) E L (one_log_completes s (undecided s) E L h))
+-- by the laws of logs
+pub new_wants : LogsAreOne → (s : System) (E : List Entry) (L : List (List ℕ)) → IsCompletedBy s (begun s).wants E L ↔ Proves s (undecided s) E L
+new_wants one s E L =
+    (λ h. (one s (undecided s) E L).1 (Completes-from_AreLogs s (undecided s ∷ []) E L h), λ h. AreLogs-from_Completes s (undecided s ∷ []) E L ((one s (undecided s) E L).0 h))
 
-pub lines_closed : (s : System) (lines : List Line) → (is_closed (after_lines s (begun s).wants lines) ≡ true) ↔ (AreInOrder lines × Proves s (undecided s) (entries_of lines) (leaves_of lines))
-lines_closed s lines =
+pub lines_closed : LogsAreOne → (s : System) (lines : List Line) → (is_closed (after_lines s (begun s).wants lines) ≡ true) ↔ (AreInOrder lines × Proves s (undecided s) (entries_of lines) (leaves_of lines))
+lines_closed one s lines =
     let closed = logs_closed s (undecided s ∷ []) lines in
-    (λ h. let k = closed.0 h in (k.0, one_log s (undecided s) (entries_of lines) (leaves_of lines) k.1), λ h. closed.1 (h.0, one_log_completes s (undecided s) (entries_of lines) (leaves_of lines) h.1))
+    let proved = one s (undecided s) (entries_of lines) (leaves_of lines) in
+    (λ h. let k = closed.0 h in (k.0, proved.1 k.1), λ h. closed.1 (h.0, proved.0 h.1))
 
-pub lines_whole : (s : System) (lines : List Line) → IsSystem s → is_closed (after_lines s (begun s).wants lines) ≡ true → IsPermutation (leaves_of lines) (map chosen_columns (solutions s))
-lines_whole s lines ok h = rw (← solutions_with-none s) (Proves-sound ok (length-replicate (length s.columns) None) ((lines_closed s lines).0 h).1)
+pub lines_whole : LogsAreOne → LogsAreComplete → (s : System) (lines : List Line) → IsSystem s → is_closed (after_lines s (begun s).wants lines) ≡ true → IsPermutation (leaves_of lines) (map chosen_columns (solutions s))
+lines_whole one complete s lines ok h = complete s (entries_of lines) (leaves_of lines) ok ((lines_closed one s lines).0 h).1

@@ -12,6 +12,7 @@ use Rattle.df_walk.specs.Assignments.{Decisions, taken, cap, need, is_met, is_mu
 use Rattle.df_walk.specs.Cuts.{is_cut, weighted_need, least_weight, greatest_weight}
 use Rattle.df_walk.specs.Logs.{is_residue}
 use Rattle.df_walk.proofs.RowTests.{least_row_is, least_row_none}
+use Rattle.df_walk.proofs.SignedNumbers.{below_from_test}
 use Rattle.df_check.specs.declared.LogFault.{LogFault}
 use Rattle.df_check.specs.declared.LogFault.TheVariants.{RowRange, NotOver, NotUnder, NotSettled, NotResidue, NotCut}
 use Rattle.df_check.specs.Entries.{unless, row_fault, least_unmet, first_spoiling, column_or_none, are_rows, cut_fault, entry_fault}
@@ -124,9 +125,6 @@ below a b h = go (int_lt a b) h.lt
     go : (t : Bool) → T t → t ≡ true
     go true h = refl
     go false h = absurd h
-
-below_from_test : (a b : ℤ) → int_lt a b ≡ true → a <ℤ b
-below_from_test a b is = record { lt = subst T (sym is) tt }
 
 not_below : (a b : ℤ) → b ≤ℤ a → int_lt a b ≡ false
 not_below a b h = go (int_lt a b) refl

@@ -9,7 +9,8 @@ use Rattle.df_walk.specs.declared.CutRow.{CutRow}
 use Rattle.df_walk.specs.Systems.{System, cells}
 use Rattle.df_walk.specs.Assignments.{Decisions}
 use Rattle.df_walk.specs.Cuts.{weight_of, negatives, positives}
-use Rattle.df_check.proofs.CutSums.{abs_add, add_turns, fits, open_from, open_same, least_more, greatest_more}
+use Rattle.df_walk.proofs.SignedNumbers.{abs_add}
+use Rattle.df_check.proofs.CutSums.{add_turns, fits, open_from, open_same, least_more, greatest_more}
 
 -- a number that fits is kept
 pub back : (z : ℤ) → unsigned_abs z ≤ 1000000000000000000 → to_z w64 (of_z w64 z) ≡ z

@@ -15,6 +15,7 @@ ghost use Rattle.df_check.specs.Stages.{AreFlagged, branches, wants_at};
 
 use crate::judge::entry_fault;
 use crate::{Fed, LogFault, OutOfMemory};
+use df_runs::laws::wanted_is_kept;
 use df_steps::Steps;
 use df_system::{Partial, System};
 use df_walk::Entry;
@@ -104,6 +105,7 @@ fn take_up<L: Ledger>(
 {
     // it has no decision, so there is room for one
     let _undecided = partial.decided(column);
+    wanted_is_kept();
     partial.take(column, steps);
     flags[*count] = true;
     *count += 1;

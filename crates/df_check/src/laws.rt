@@ -10,10 +10,15 @@ ghost use Rattle.df_check.specs.Laws.{
   DifferencesTell,
 };
 
+use df_runs::laws::logs_are_one;
+use df_walk::laws::logs_are_complete;
+
 /// What completes a new checker are the logs that prove their leaves from nothing decided.
 pub fn new_checkers_want_proofs()
     ensures { NewCheckersWantProofs }
-{}
+{
+    logs_are_one();
+}
 
 /// What an entry that is accepted leaves to come.
 pub fn entries_move()
@@ -44,13 +49,18 @@ pub fn closed_wants_nothing()
 /// its settled entry.
 pub fn lines_close_proofs()
     ensures { LinesCloseProofs }
-{}
+{
+    logs_are_one();
+}
 
 /// The leaves of such lines are the solutions of the system, each once and nothing else, whatever
 /// the order of branching.
 pub fn closed_lines_are_whole()
     ensures { ClosedLinesAreWhole }
-{}
+{
+    logs_are_one();
+    logs_are_complete();
+}
 
 /// A difference is the length of what two lists have in common, and there is none exactly where
 /// they are the same.

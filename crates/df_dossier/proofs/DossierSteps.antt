@@ -1,15 +1,11 @@
--- The pieces of a dossier, part by part.
-use Rattle.std.proofs.Common.{◌≡◌, ℕ, zero, suc, ◌+◌, ◌-◌, ◌≤◌, ◌<◌, ◌&&◌, Bool, true, false, cond, nat_lt, nat_le, nat_eq, List, [], ◌∷◌, ◌++◌, length, take, drop, map, Option, Some, None, option_map, ◌⊎◌, inl, inr, is_some, IfSome, IfOk, Result, Ok, Err, bytes_eq, codes, refl, sym, ap, subst, ◌∙◌, arith, tests, append_assoc}
-use Rattle.std.proofs.lemmas.List.{map-append, length-take-le}
+-- The pieces of a dossier, part by part: the first lines, the source lines and the log.
+use Rattle.std.proofs.Common.{◌≡◌, ℕ, zero, suc, ◌+◌, ◌-◌, ◌≤◌, ◌<◌, Bool, true, false, cond, nat_eq, List, [], ◌∷◌, ◌++◌, length, take, drop, map, Option, Some, None, option_map, ◌⊎◌, inl, inr, is_some, IfSome, Result, Ok, Err, bytes_eq, codes, refl, sym, ap, subst, ◌∙◌, arith, tests, append_assoc}
+use Rattle.std.proofs.lemmas.List.{map-append}
 use Rattle.std.proofs.lemmas.Slice.Eq.{bytes_eq-Decides}
 use Rattle.df_io.specs.Lines.{tokens_of}
-use Rattle.df_io.specs.Number.{number_read}
-use Rattle.df_io.specs.declared.numbers.NumberRead.{NumberRead}
-use Rattle.df_io.specs.declared.numbers.NumberRead.TheVariants.{Value, NotDigits, TooLarge}
 use Rattle.df_walk.specs.declared.Rules.{Rules}
 use Rattle.df_walk.specs.declared.Entry.{Entry}
 use Rattle.df_lang.specs.Rules.{◌>>=◌}
-use Rattle.df_dossier.specs.declared.numbers.TheConstants.{MOST_COUNT}
 use Rattle.df_dossier.specs.declared.judge.Awaits.{Awaits}
 use Rattle.df_dossier.specs.declared.judge.Awaits.TheVariants as awaits
 use Rattle.df_dossier.specs.declared.judge.DossierFault.{DossierFault}
@@ -17,14 +13,14 @@ use Rattle.df_dossier.specs.declared.judge.DossierFault.TheVariants as fault
 use Rattle.df_dossier.specs.declared.judge.Judged.{Judged}
 use Rattle.df_dossier.specs.declared.judge.Piece.{Piece}
 use Rattle.df_dossier.specs.declared.judge.Piece.TheVariants as piece
-use Rattle.df_dossier.specs.Tokens.{◌>>?◌, first_then, ending, within, number_within}
-use Rattle.df_dossier.specs.Entries.{entry_of, entry_read}
+use Rattle.df_dossier.specs.Tokens.{◌>>?◌}
+use Rattle.df_dossier.specs.Entries.{entry_read}
 use Rattle.df_dossier.specs.Paths.{past}
-use Rattle.df_dossier.specs.Judging.{judged, judged_or, bad, head_of, count_of, after_source, end_of, log_judged, tokens_judged, line_judged, end_judged}
-use Rattle.df_dossier.specs.Dossiers.{Refusal, refused, Taken, Dossier, Ending, Log, some_token, has_tokens, said_or, first_line, head_line, count_line, from_line, begins, ending_by, end_line, item_or, item_line, item_before, log_from, start_from, stated_or, source_from, count_from, dossier_from}
-use Rattle.df_dossier.specs.Pieces.{Placed, Pieces, only, in_front, is_bad, piece_then, pieces_from}
-use Rattle.df_dossier.specs.DossierPieces.{NotRead, order, item_piece, end_piece, log_pieces, dossier_pieces, BeginsWith, EndsBadly, SaysDossier, AreBlank, GoesOnAfter, PiecesAgree, PiecesOfDossiers}
-use Rattle.df_dossier.proofs.PieceSteps.{end_says, then_some, pieces_skip}
+use Rattle.df_dossier.specs.Judging.{judged, judged_or, bad, head_of, count_of, after_source, end_of, tokens_judged, line_judged, end_judged}
+use Rattle.df_dossier.specs.Dossiers.{Refusal, Taken, Log, some_token, said_or, first_line, head_line, count_line, from_line, begins, ending_by, item_or, item_before, log_from}
+use Rattle.df_dossier.specs.Pieces.{Placed, Pieces, in_front, is_bad, piece_then, pieces_from}
+use Rattle.df_dossier.specs.DossierPieces.{NotRead, order, item_piece, log_pieces, BeginsWith, EndsBadly}
+use Rattle.df_dossier.proofs.PieceSteps.{end_says, pieces_skip}
 
 abbrev with_front : List Placed → Pieces → Pieces
 with_front front ps = record { before = front ++ ps.before; last = ps.last }
@@ -33,18 +29,18 @@ abbrev pieces_of : List Placed → Placed → Pieces
 pieces_of before last = record { before = before; last = last }
 
 -- some pieces, and then some more
-begins_append : (s1 s2 : List Piece) (rest mid ps : Pieces) → BeginsWith s1 mid ps → BeginsWith s2 rest mid → BeginsWith (s1 ++ s2) rest ps
+pub begins_append : (s1 s2 : List Piece) (rest mid ps : Pieces) → BeginsWith s1 mid ps → BeginsWith s2 rest mid → BeginsWith (s1 ++ s2) rest ps
 begins_append s1 s2 rest mid ps first more = (
   first.0 ++ more.0,
   map-append (λ p. p.piece) first.0 more.0 ∙ ap (λ l. l ++ map (λ p. p.piece) more.0) first.1 ∙ ap (λ l. s1 ++ l) more.1,
   first.2 ∙ ap (λ (m : Pieces). with_front first.0 m) more.2 ∙ ap (λ l. pieces_of l rest.last) (sym (append_assoc first.0 more.0 rest.before)),
 )
 
-badly_after : (said : List Piece) (r : Refusal) (mid ps : Pieces) → BeginsWith said mid ps → EndsBadly r mid → EndsBadly r ps
+pub badly_after : (said : List Piece) (r : Refusal) (mid ps : Pieces) → BeginsWith said mid ps → EndsBadly r mid → EndsBadly r ps
 badly_after said r mid ps begins ends = subst (EndsBadly r) (sym begins.2) (record { piece = ends.piece; number = ends.number })
 
 -- what the first line with tokens is, as a piece
-abbrev AtFirst : {A : Type 0} → (A → Judged) → Result (Taken A) Refusal → Pieces → Type 0
+abbrev pub AtFirst : {A : Type 0} → (A → Judged) → Result (Taken A) Refusal → Pieces → Type 0
 AtFirst say (Ok t) ps = BeginsWith ((say t.value).piece ∷ []) (pieces_from (say t.value).next (t.number + 1) t.after) ps
 AtFirst say (Err r) ps = EndsBadly r ps
 
@@ -69,19 +65,19 @@ module _ {A : Type 0} (a : Awaits) (f : DossierFault) (read : List ℕ → Optio
         (subst (λ o. AtFirst say (said_or f number lines (read line)) (piece_then a number line o (λ next. pieces_from next (number + 1) lines))) (sym (filled line word tokens are)) (said number line lines (read line)))
 
 -- the head, the number of source lines, and the start
-head_pieces : (number : ℕ) (lines : List (List ℕ)) → AtFirst (λ rules. judged (awaits.Count rules) (piece.Head rules)) (first_line fault.BadHead head_line number lines) (pieces_from awaits.First number lines)
+pub head_pieces : (number : ℕ) (lines : List (List ℕ)) → AtFirst (λ rules. judged (awaits.Count rules) (piece.Head rules)) (first_line fault.BadHead head_line number lines) (pieces_from awaits.First number lines)
 head_pieces = first_pieces awaits.First fault.BadHead head_line (λ rules. judged (awaits.Count rules) (piece.Head rules)) refl
     (λ line are. ap (tokens_judged awaits.First) are)
     (λ line word tokens are. ap (tokens_judged awaits.First) are ∙ ap (λ ts. Some (judged_or fault.BadHead (option_map (λ rules. judged (awaits.Count rules) (piece.Head rules)) (head_of ts)))) (sym are))
     (λ x. refl)
 
-count_pieces : (rules : Rules) (number : ℕ) (lines : List (List ℕ)) → AtFirst (λ n. judged (awaits.Source rules n) (piece.SourceCount n)) (first_line fault.BadHead count_line number lines) (pieces_from (awaits.Count rules) number lines)
+pub count_pieces : (rules : Rules) (number : ℕ) (lines : List (List ℕ)) → AtFirst (λ n. judged (awaits.Source rules n) (piece.SourceCount n)) (first_line fault.BadHead count_line number lines) (pieces_from (awaits.Count rules) number lines)
 count_pieces rules = first_pieces (awaits.Count rules) fault.BadHead count_line (λ n. judged (awaits.Source rules n) (piece.SourceCount n)) refl
     (λ line are. ap (tokens_judged (awaits.Count rules)) are)
     (λ line word tokens are. ap (tokens_judged (awaits.Count rules)) are ∙ ap (λ ts. Some (judged_or fault.BadHead (option_map (λ n. judged (awaits.Source rules n) (piece.SourceCount n)) (count_of ts)))) (sym are))
     (λ x. refl)
 
-start_pieces : (rules : Rules) (number : ℕ) (lines : List (List ℕ)) → AtFirst (λ (start : NotRead). judged (awaits.Log rules) piece.RunFrom) (first_line fault.BadHead (from_line order) number lines) (pieces_from (awaits.From rules) number lines)
+pub start_pieces : (rules : Rules) (number : ℕ) (lines : List (List ℕ)) → AtFirst (λ (start : NotRead). judged (awaits.Log rules) piece.RunFrom) (first_line fault.BadHead (from_line order) number lines) (pieces_from (awaits.From rules) number lines)
 start_pieces rules = first_pieces (awaits.From rules) fault.BadHead (from_line order) (λ start. judged (awaits.Log rules) piece.RunFrom) refl
     (λ line are. ap (tokens_judged (awaits.From rules)) are)
     (λ line word tokens are. ap (tokens_judged (awaits.From rules)) are ∙ ap (λ ts. Some (judged_or fault.BadHead (option_map (λ rest. judged (awaits.Log rules) piece.RunFrom) (past (codes "from") ts)))) (sym are) ∙ ap (λ o. Some (judged_or fault.BadHead o)) (same (past (codes "from") (tokens_of line))))
@@ -91,7 +87,7 @@ start_pieces rules = first_pieces (awaits.From rules) fault.BadHead (from_line o
       same (Some rest) = refl
 
 -- the log
-abbrev AtLog : Result (Taken (Log NotRead NotRead)) Refusal → Pieces → Type 0
+abbrev pub AtLog : Result (Taken (Log NotRead NotRead)) Refusal → Pieces → Type 0
 AtLog (Ok t) ps = BeginsWith (log_pieces t.value) (pieces_from awaits.Next (t.number + 1) t.after) ps
 AtLog (Err r) ps = EndsBadly r ps
 
@@ -151,7 +147,7 @@ module _ (rules : Rules) (number : ℕ) (line : List ℕ) (lines : List (List �
   line_at [] at = at
   line_at (word ∷ tokens) at = words word tokens (bytes_eq word (codes "design")) (bytes_eq word (codes "end")) refl refl at
 
-log_at : (rules : Rules) (number : ℕ) (lines : List (List ℕ)) → AtLog (log_from order rules tt number lines) (pieces_from (awaits.Log rules) number lines)
+pub log_at : (rules : Rules) (number : ℕ) (lines : List (List ℕ)) → AtLog (log_from order rules tt number lines) (pieces_from (awaits.Log rules) number lines)
 log_at rules number [] = record { piece = refl; number = refl }
 log_at rules number (line ∷ lines) = line_at rules number line lines (tokens_of line) (log_at rules (number + 1) lines)
 
@@ -162,14 +158,14 @@ after_is rules k =
     let less : suc (suc k) - 1 ≡ suc k = omega arith in
     ap (λ b. cond b (awaits.From rules) (awaits.Source rules (suc (suc k) - 1))) other ∙ ap (awaits.Source rules) less
 
-source_short : (rules : Rules) (m number : ℕ) (lines : List (List ℕ)) → length lines < suc m → EndsBadly record { line = 0; fault = fault.BadHead } (pieces_from (awaits.Source rules (suc m)) number lines)
+pub source_short : (rules : Rules) (m number : ℕ) (lines : List (List ℕ)) → length lines < suc m → EndsBadly record { line = 0; fault = fault.BadHead } (pieces_from (awaits.Source rules (suc m)) number lines)
 source_short rules m number [] short = record { piece = refl; number = refl }
 source_short rules zero number (line ∷ lines) short = absurd (omega (arith, short))
 source_short rules (suc k) number (line ∷ lines) short =
     let ends = source_short rules k (number + 1) lines (omega (arith, short)) in
     subst (λ a. EndsBadly record { line = 0; fault = fault.BadHead } (in_front record { piece = piece.SourceLine; number = number; text = line } (pieces_from a (number + 1) lines))) (sym (after_is rules k)) (record { piece = ends.piece; number = ends.number })
 
-source_whole : (rules : Rules) (m number : ℕ) (lines : List (List ℕ)) → suc m ≤ length lines
+pub source_whole : (rules : Rules) (m number : ℕ) (lines : List (List ℕ)) → suc m ≤ length lines
     → BeginsWith (map (λ line. piece.SourceLine) (take (suc m) lines)) (pieces_from (awaits.From rules) (number + suc m) (drop (suc m) lines)) (pieces_from (awaits.Source rules (suc m)) number lines)
 source_whole rules m number [] whole = absurd (omega (arith, whole))
 source_whole rules zero number (line ∷ lines) whole = (record { piece = piece.SourceLine; number = number; text = line } ∷ [], refl, refl)
@@ -181,113 +177,3 @@ source_whole rules (suc k) number (line ∷ lines) whole =
     (begins_append (piece.SourceLine ∷ []) (map (λ line. piece.SourceLine) (take (suc k) lines)) rest (pieces_from (awaits.Source rules (suc k)) (number + 1) lines) _
     (record { piece = piece.SourceLine; number = number; text = line } ∷ [], refl, refl)
     (subst (λ n. BeginsWith (map (λ line. piece.SourceLine) (take (suc k) lines)) (pieces_from (awaits.From rules) n (drop (suc k) lines)) (pieces_from (awaits.Source rules (suc k)) (number + 1) lines)) place later))
-
--- at least one source line is stated
-counted : (v : NumberRead) (more : List (List ℕ)) → IfSome (within 1 MOST_COUNT v >>? λ n. ending more n) (λ n. 1 ≤ n)
-counted (Value n) more = by_test (nat_le 1 n) (nat_le n MOST_COUNT) refl more where
-  by_test : (a b : Bool) → nat_le 1 n ≡ a → (more : List (List ℕ)) → IfSome (cond (a && b) (Some n) None >>? λ n. ending more n) (λ n. 1 ≤ n)
-  by_test true true least [] = grind (arith, tests)
-  by_test true true least (token ∷ more) = tt
-  by_test true false least more = tt
-  by_test false b least more = tt
-counted NotDigits more = tt
-counted TooLarge more = tt
-
-some_counted : (line : List ℕ) → IfSome (count_line line) (λ n. 1 ≤ n)
-some_counted line = then_some (past (codes "source") (tokens_of line)) (λ rest. first_then rest (λ token more. number_within 1 MOST_COUNT token >>? λ n. ending more n)) (λ n. 1 ≤ n) by_rest where
-  by_rest : (rest : List (List ℕ)) → IfSome (first_then rest (λ token more. number_within 1 MOST_COUNT token >>? λ n. ending more n)) (λ n. 1 ≤ n)
-  by_rest [] = tt
-  by_rest (token ∷ more) = counted (number_read token) more
-
-first_has : {A : Type 0} (f : DossierFault) (read : List ℕ → Option A) (P : A → Type 0) → ((line : List ℕ) → IfSome (read line) P) → (number : ℕ) (lines : List (List ℕ)) → IfOk (first_line f read number lines) (λ t. P t.value)
-first_has f read P all number [] = tt
-first_has f read P all number (line ∷ lines) = by_tokens (has_tokens line) (first_has f read P all (number + 1) lines) where
-  told : (o : Option _) → IfSome o P → IfOk (said_or f number lines o) (λ t. P t.value)
-  told None has = tt
-  told (Some x) has = has
-
-  by_tokens : (b : Bool) → IfOk (first_line f read (number + 1) lines) (λ t. P t.value) → IfOk (cond b (said_or f number lines (read line)) (first_line f read (number + 1) lines)) (λ t. P t.value)
-  by_tokens true later = told (read line) (all line)
-  by_tokens false later = later
-
--- the parts of a dossier after some pieces
-module _ (rules : Rules) (source : List (List ℕ)) (number : ℕ) (lines : List (List ℕ)) (ps : Pieces)
-    (front : BeginsWith (piece.Head rules ∷ piece.SourceCount (length source) ∷ map (λ line. piece.SourceLine) source) (pieces_from (awaits.From rules) number lines) ps) where
-  abbrev before : List Piece
-  before = piece.Head rules ∷ piece.SourceCount (length source) ∷ map (λ line. piece.SourceLine) source
-
-  with_log : (start : Taken NotRead) (r : Result (Taken (Log NotRead NotRead)) Refusal) (mid : Pieces) → BeginsWith (before ++ piece.RunFrom ∷ []) mid ps → AtLog r mid
-      → SaysDossier (r >>= λ log. Ok record { value = record { rules = rules; source = source; problem = tt; start = start.value; log = log.value }; number = log.number; after = log.after }) ps
-  with_log start (Ok log) mid first at =
-      subst (λ said. BeginsWith said (pieces_from awaits.Next (log.number + 1) log.after) ps) (append_assoc before (piece.RunFrom ∷ []) (log_pieces log.value))
-      (begins_append (before ++ piece.RunFrom ∷ []) (log_pieces log.value) (pieces_from awaits.Next (log.number + 1) log.after) mid ps first at)
-  with_log start (Err e) mid first at = badly_after (before ++ piece.RunFrom ∷ []) e mid ps first at
-
-  with_start : (r : Result (Taken NotRead) Refusal) → AtFirst (λ (start : NotRead). judged (awaits.Log rules) piece.RunFrom) r (pieces_from (awaits.From rules) number lines)
-      → SaysDossier (r >>= λ start. log_from order rules tt (start.number + 1) start.after >>= λ log. Ok record { value = record { rules = rules; source = source; problem = tt; start = start.value; log = log.value }; number = log.number; after = log.after }) ps
-  with_start (Ok start) at =
-      let mid = pieces_from (awaits.Log rules) (start.number + 1) start.after in
-      with_log start (log_from order rules tt (start.number + 1) start.after) mid (begins_append before (piece.RunFrom ∷ []) mid (pieces_from (awaits.From rules) number lines) ps front at) (log_at rules (start.number + 1) start.after)
-  with_start (Err e) at = badly_after before e (pieces_from (awaits.From rules) number lines) ps front at
-
-  start_says : SaysDossier (start_from order rules source tt number lines) ps
-  start_says = with_start (first_line fault.BadHead (from_line order) number lines) (start_pieces rules number lines)
-
-source_says : (rules : Rules) (number n : ℕ) (lines : List (List ℕ)) (ps : Pieces) → 1 ≤ n → BeginsWith (piece.Head rules ∷ piece.SourceCount n ∷ []) (pieces_from (awaits.Source rules n) (number + 1) lines) ps
-    → SaysDossier (source_from order rules number n lines) ps
-source_says rules number zero lines ps some front = absurd (omega (arith, some))
-source_says rules number (suc m) lines ps some front = by_length (nat_lt (length lines) (suc m)) refl where
-  by_length : (b : Bool) → nat_lt (length lines) (suc m) ≡ b → SaysDossier (cond b (refused 0 fault.BadHead) (start_from order rules (take (suc m) lines) tt (number + 1 + suc m) (drop (suc m) lines))) ps
-  by_length true short =
-      let few : length lines < suc m = grind (arith, tests) in
-      badly_after (piece.Head rules ∷ piece.SourceCount (suc m) ∷ []) record { line = 0; fault = fault.BadHead } (pieces_from (awaits.Source rules (suc m)) (number + 1) lines) ps front (source_short rules m (number + 1) lines few)
-  by_length false short =
-      let whole : suc m ≤ length lines = grind (arith, tests) in
-      let rest = pieces_from (awaits.From rules) (number + 1 + suc m) (drop (suc m) lines) in
-      let taken : length (take (suc m) lines) ≡ suc m = length-take-le (suc m) lines whole in
-      start_says rules (take (suc m) lines) (number + 1 + suc m) (drop (suc m) lines) ps
-      (subst (λ k. BeginsWith (piece.Head rules ∷ piece.SourceCount k ∷ map (λ line. piece.SourceLine) (take (suc m) lines)) rest ps) (sym taken)
-      (begins_append (piece.Head rules ∷ piece.SourceCount (suc m) ∷ []) (map (λ line. piece.SourceLine) (take (suc m) lines)) rest (pieces_from (awaits.Source rules (suc m)) (number + 1) lines) ps front (source_whole rules m (number + 1) lines whole)))
-
-count_says : (rules : Rules) (number : ℕ) (lines : List (List ℕ)) (ps : Pieces) → BeginsWith (piece.Head rules ∷ []) (pieces_from (awaits.Count rules) number lines) ps → SaysDossier (count_from order rules number lines) ps
-count_says rules number lines ps front = by_count (first_line fault.BadHead count_line number lines) (count_pieces rules number lines) (first_has fault.BadHead count_line (λ n. 1 ≤ n) some_counted number lines) where
-  by_count : (r : Result (Taken ℕ) Refusal) → AtFirst (λ n. judged (awaits.Source rules n) (piece.SourceCount n)) r (pieces_from (awaits.Count rules) number lines) → IfOk r (λ t. 1 ≤ t.value)
-      → SaysDossier (r >>= λ count. source_from order rules count.number count.value count.after) ps
-  by_count (Ok t) at some =
-      source_says rules t.number t.value t.after ps some
-      (begins_append (piece.Head rules ∷ []) (piece.SourceCount t.value ∷ []) (pieces_from (awaits.Source rules t.value) (t.number + 1) t.after) (pieces_from (awaits.Count rules) number lines) ps front at)
-  by_count (Err e) at some = badly_after (piece.Head rules ∷ []) e (pieces_from (awaits.Count rules) number lines) ps front at
-
-dossier_says : (number : ℕ) (lines : List (List ℕ)) → SaysDossier (dossier_from order number lines) (pieces_from awaits.First number lines)
-dossier_says number lines = by_head (first_line fault.BadHead head_line number lines) (head_pieces number lines) where
-  by_head : (r : Result (Taken Rules) Refusal) → AtFirst (λ rules. judged (awaits.Count rules) (piece.Head rules)) r (pieces_from awaits.First number lines)
-      → SaysDossier (r >>= λ head. count_from order head.value (head.number + 1) head.after) (pieces_from awaits.First number lines)
-  by_head (Ok t) at = count_says t.value (t.number + 1) t.after (pieces_from awaits.First number lines) at
-  by_head (Err e) at = at
-
--- after a dossier
-no_token : (ts : List (List ℕ)) → some_token ts ≡ false → ts ≡ []
-no_token [] none = refl
-no_token (token ∷ tokens) none = absurd (cc)
-
-done_after : (number : ℕ) (lines : List (List ℕ)) → AreBlank lines → pieces_from awaits.Next number lines ≡ only record { piece = piece.Done; number = 0; text = [] }
-done_after number [] blank = refl
-done_after number (line ∷ lines) blank =
-    pieces_skip awaits.Next number line lines (ap (tokens_judged awaits.Next) (no_token (tokens_of line) blank.0)) ∙ done_after (number + 1) lines blank.1
-
-next_after : (number : ℕ) (lines : List (List ℕ)) → (AreBlank lines → ⊥) → pieces_from awaits.Next number lines ≡ pieces_from awaits.First number lines
-next_after number [] other = absurd (other tt)
-next_after number (line ∷ lines) other = by_tokens (tokens_of line) refl (λ none. next_after (number + 1) lines (λ blank. other (none, blank))) where
-  by_tokens : (ts : List (List ℕ)) → tokens_of line ≡ ts → (has_tokens line ≡ false → pieces_from awaits.Next (number + 1) lines ≡ pieces_from awaits.First (number + 1) lines)
-      → pieces_from awaits.Next number (line ∷ lines) ≡ pieces_from awaits.First number (line ∷ lines)
-  by_tokens [] are later =
-      pieces_skip awaits.Next number line lines (ap (tokens_judged awaits.Next) are) ∙ later (ap some_token are) ∙ sym (pieces_skip awaits.First number line lines (ap (tokens_judged awaits.First) are))
-  by_tokens (word ∷ tokens) are later =
-      ap (λ ts. piece_then awaits.Next number line (tokens_judged awaits.Next ts) (λ next. pieces_from next (number + 1) lines)) are
-      ∙ sym (ap (λ ts. piece_then awaits.First number line (tokens_judged awaits.First ts) (λ next. pieces_from next (number + 1) lines)) are)
-
-pub dossiers_agree : PiecesOfDossiers
-dossiers_agree number lines = record {
-  dossier = dossier_says number lines;
-  after = record { done = done_after number lines; next = next_after number lines };
-}

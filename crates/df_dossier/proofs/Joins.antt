@@ -15,7 +15,7 @@ pub join_after : (text : List ℕ) (texts : List (List ℕ)) → spaced (text �
 join_after text [] = sym (append-nil text)
 join_after text (next ∷ texts) = ap (λ l. text ++ 32 ∷ l) (join_after next texts)
 
-after_both : (xs ys : List (List ℕ)) → after_spaces (xs ++ ys) ≡ after_spaces xs ++ after_spaces ys
+pub after_both : (xs ys : List (List ℕ)) → after_spaces (xs ++ ys) ≡ after_spaces xs ++ after_spaces ys
 after_both [] ys = refl
 after_both (x ∷ xs) ys = ap (λ l. 32 ∷ (x ++ l)) (after_both xs ys) ∙ sym (append_assoc (32 ∷ x) (after_spaces xs) (after_spaces ys))
 

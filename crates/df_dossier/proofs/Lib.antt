@@ -11,6 +11,13 @@ pub mod PathTests
 pub mod SpentTexts
 pub mod EndsBack
 pub mod LinesShort
+pub mod LinesClean
+pub mod DesignsBack
+pub mod TextsBack
+pub mod RunPaths
+pub mod PutPlaces
 pub mod StreamSteps
 pub mod PieceSteps
 pub mod DossierSteps
+pub mod DossierOrder
+pub mod SpentKept

@@ -6,10 +6,14 @@ pub mod DesignSteps
 pub mod Reads
 pub mod Judging
 pub mod RoundTrips
+pub mod DesignsBack
 pub mod Dossiers
 pub mod Sources
 pub mod Spent
 pub mod DossierTexts
+pub mod TextsBack
+pub mod RunPaths
 pub mod SpentStreams
 pub mod Pieces
 pub mod DossierPieces
+pub mod SpentRules

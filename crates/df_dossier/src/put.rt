@@ -1,9 +1,10 @@
 // The lines of a dossier, or their pieces, written to a buffer without line feeds.
-ghost use Rattle.std.specs.Prelude.{◌≡◌, ◌≤◌, ◌+◌, ◌++◌, ◌∷◌, length, length as length_of, codes};
+ghost use Rattle.std.specs.Prelude.{◌≡◌, ◌≤◌, ◌<◌, ◌+◌, ◌++◌, ◌∷◌, length, length as length_of, codes};
 ghost use Rattle.std.specs.Prelude.{decimal};
 ghost use Rattle.std.specs.List.{flat_map};
 ghost use Rattle.arrayvec.specs.ArrayVec.{array_vec_len};
 ghost use Rattle.df_io.specs.Joined.{spaced};
+ghost use Rattle.df_walk.specs.declared.Entry.TheVariants.{Branch, Over, Under, Settled, Residue};
 ghost use Rattle.df_dossier.specs.Entries.{entry_text, row_tokens};
 ghost use Rattle.df_dossier.specs.Tokens.{after_spaces};
 ghost use Rattle.df_dossier.specs.Paths.{end_tokens};
@@ -21,19 +22,64 @@ pub fn put_entry(buf: &mut LineBuf, entry: Entry)
     ensures len { array_vec_len buf.new ≡ array_vec_len buf.old + length (entry_text entry) }
 {
     match entry {
-        Entry::Branch(column) => put_one(buf, b"branch ", column),
-        Entry::Over(row) => put_one(buf, b"over ", row),
-        Entry::Under(row) => put_one(buf, b"under ", row),
-        Entry::Settled => put_text(buf, b"settled"),
-        Entry::Residue { row, divisor } => {
-            put_one(buf, b"residue ", row);
-            put_after(buf, divisor);
-        }
+        Entry::Branch(column) => put_branch(buf, column),
+        Entry::Over(row) => put_over(buf, row),
+        Entry::Under(row) => put_under(buf, row),
+        Entry::Settled => put_settled(buf),
+        Entry::Residue { row, divisor } => put_residue(buf, row, divisor),
         Entry::Cut(rows) => {
             put_text(buf, b"cut");
             put_rows(buf, &rows);
         }
     }
+}
+
+/// Appends the line of a branch, as `put_entry` does. The buffer has room for it.
+pub fn put_branch(buf: &mut LineBuf, column: u32)
+    requires { array_vec_len buf.old + length (entry_text (Branch column)) ≤ 1024 }
+    ensures text { buf.new.items ≡ buf.old.items ++ entry_text (Branch column) }
+    ensures len { array_vec_len buf.new
+        ≡ array_vec_len buf.old + length (entry_text (Branch column)) }
+{
+    put_one(buf, b"branch ", column);
+}
+
+/// Appends the line of a row that is over, as `put_entry` does. The buffer has room for it.
+pub fn put_over(buf: &mut LineBuf, row: u32)
+    requires { array_vec_len buf.old + length (entry_text (Over row)) ≤ 1024 }
+    ensures text { buf.new.items ≡ buf.old.items ++ entry_text (Over row) }
+    ensures len { array_vec_len buf.new ≡ array_vec_len buf.old + length (entry_text (Over row)) }
+{
+    put_one(buf, b"over ", row);
+}
+
+/// Appends the line of a row that is under, as `put_entry` does. The buffer has room for it.
+pub fn put_under(buf: &mut LineBuf, row: u32)
+    requires { array_vec_len buf.old + length (entry_text (Under row)) ≤ 1024 }
+    ensures text { buf.new.items ≡ buf.old.items ++ entry_text (Under row) }
+    ensures len { array_vec_len buf.new ≡ array_vec_len buf.old + length (entry_text (Under row)) }
+{
+    put_one(buf, b"under ", row);
+}
+
+/// Appends the line of a settled path, as `put_entry` does. The buffer has room for it.
+pub fn put_settled(buf: &mut LineBuf)
+    requires { array_vec_len buf.old + length (entry_text Settled) ≤ 1024 }
+    ensures text { buf.new.items ≡ buf.old.items ++ entry_text Settled }
+    ensures len { array_vec_len buf.new ≡ array_vec_len buf.old + length (entry_text Settled) }
+{
+    put_text(buf, b"settled");
+}
+
+/// Appends the line of a residue, as `put_entry` does. The buffer has room for it.
+pub fn put_residue(buf: &mut LineBuf, row: u32, divisor: u32)
+    requires { array_vec_len buf.old + length (entry_text (Residue row divisor)) ≤ 1024 }
+    ensures text { buf.new.items ≡ buf.old.items ++ entry_text (Residue row divisor) }
+    ensures len { array_vec_len buf.new
+        ≡ array_vec_len buf.old + length (entry_text (Residue row divisor)) }
+{
+    put_one(buf, b"residue ", row);
+    put_after(buf, divisor);
 }
 
 // Appends a word with its space, and a number.
@@ -44,7 +90,36 @@ fn put_one(buf: &mut LineBuf, word: &[u8], number: u32)
         ≡ array_vec_len buf.old + length (word.now ++ decimal number) }
 {
     put_text(buf, word);
-    put_number(buf, u64::from(number));
+    put_place(buf, number);
+}
+
+// Appends the number of a row or a column. Most have at most three digits, which are put at once.
+fn put_place(buf: &mut LineBuf, number: u32)
+    requires { array_vec_len buf.old + length (decimal number) ≤ 1024 }
+    ensures text { buf.new.items ≡ buf.old.items ++ decimal number }
+    ensures len { array_vec_len buf.new ≡ array_vec_len buf.old + length (decimal number) }
+{
+    let tens = number / 10;
+    if number < 10 {
+        put_text(buf, &[digit(number)]);
+    } else if number < 100 {
+        put_text(buf, &[digit(tens), digit(number % 10)]);
+    } else if number < 1000 {
+        put_text(
+            buf,
+            &[digit(tens / 10), digit(tens % 10), digit(number % 10)],
+        );
+    } else {
+        put_number(buf, u64::from(number));
+    }
+}
+
+// The byte of a digit.
+fn digit(number: u32) -> u8
+    requires { number < 10 }
+    ensures { result ≡ 48 + number }
+{
+    b'0' + number as u8
 }
 
 // Appends a space and a number.
@@ -54,7 +129,7 @@ fn put_after(buf: &mut LineBuf, number: u32)
     ensures len { array_vec_len buf.new ≡ array_vec_len buf.old + length (32 ∷ decimal number) }
 {
     buf.push(b' ');
-    put_number(buf, u64::from(number));
+    put_place(buf, number);
 }
 
 // Appends a weighted row, its weight and its number each after a space.

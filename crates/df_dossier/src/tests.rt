@@ -294,6 +294,7 @@ fn lines_are_judged(rt: HostRuntime) -> Result<(), Fail> {
         let letters = letters(rt.alloc(), text)?;
         assert_eq!(rt; letters.as_slice(), read);
     }
+    pieces_are_those_of_dossiers();
     Ok(())
 }
 

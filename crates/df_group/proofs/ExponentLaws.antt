@@ -3,18 +3,10 @@ use Rattle.std.proofs.Common.{◌≡◌, ℕ, zero, suc, ◌+◌, ◌-◌, ◌*�
 use Rattle.std.proofs.Math.Nat.{mul-mod_left}
 use Rattle.std.proofs.lemmas.Bool.{cases_lt, eqb-true, both_ways}
 use Rattle.std.specs.List.{find, range_with_len}
+use Rattle.df_lists.proofs.RangeLaws.{find_first}
 use Rattle.df_group.specs.Elements.{order_of, IsShape}
 use Rattle.df_group.specs.Subgroups.{is_common_multiple, exponent_of}
 use Rattle.df_group.proofs.ElementLaws.{ArePositive, positive_shape, order_some}
-
--- the first number of a range that passes
-pub find_first : (t : ℕ → Bool) (a n k : ℕ) → a ≤ k → k < a + n → t k ≡ true → ((j : ℕ) → a ≤ j → j < k → t j ≡ false) → find t (range_with_len a n) ≡ Some k
-find_first t a zero k l m h none = absurd (omega arith)
-find_first t a (suc n) k l m h none =
-    elim (cases_lt a k) [
-      | inl less ↦ rw (none a (omega arith) less) (find_first t (a + 1) n k (omega arith) (omega arith) h (λ j x y. none j (omega arith) y))
-      | inr same ↦ let e : a ≡ k = omega arith in rw (ap t e ∙ h) (ap Some e)
-    ]
 
 -- where some number passes, there is a first one
 pub first_passing : (t : ℕ → Bool) (a n k : ℕ) → k ≡ a + n → t k ≡ true → (c : ℕ) × (a ≤ c) × (c ≤ k) × (t c ≡ true) × ((j : ℕ) → a ≤ j → j < c → t j ≡ false)

@@ -1,7 +1,8 @@
+pub mod BlocksBack
 pub mod CanonicalShort
 pub mod EachAfter
 pub mod EachMember
-pub mod ElementParts
+pub mod ElementPieces
 pub mod Factors
 pub mod GeneratorsBelow
 pub mod InOrder

@@ -35,14 +35,14 @@ below_factor f fs r o rs true low ih h =
     subst (IsElement (f ∷ fs)) m.2 (grind (arith, tests), ih m.0 m.1)
 below_factor f fs r o rs false low ih h = absurd cc
 
-residues_kept : (fs : List ℕ) (parts : List (List ℕ)) (rs : List ℕ) → residues_of fs parts ≡ Some rs → IsElement fs rs
+residues_kept : (fs : List ℕ) (pieces : List (List ℕ)) (rs : List ℕ) → residues_of fs pieces ≡ Some rs → IsElement fs rs
 unfolding residues_of
 residues_kept [] [] rs h = cc
-residues_kept [] (part ∷ parts) rs h = absurd cc
+residues_kept [] (piece ∷ pieces) rs h = absurd cc
 residues_kept (f ∷ fs) [] rs h = absurd cc
-residues_kept (f ∷ fs) (part ∷ parts) rs h =
-    let r = found (value_of part) (λ r. if nat_lt r f then option_map (λ ss. r ∷ ss) (residues_of fs parts) else None) rs h in
-    below_factor f fs r.0 (residues_of fs parts) rs (nat_lt r.0 f) refl (residues_kept fs parts) r.2
+residues_kept (f ∷ fs) (piece ∷ pieces) rs h =
+    let r = found (value_of piece) (λ r. if nat_lt r f then option_map (λ ss. r ∷ ss) (residues_of fs pieces) else None) rs h in
+    below_factor f fs r.0 (residues_of fs pieces) rs (nat_lt r.0 f) refl (residues_kept fs pieces) r.2
 
 pub element_kept : (fs token : List ℕ) (e : ℕ) → element_of fs token ≡ Some e → e < order_of fs
 unfolding element_of

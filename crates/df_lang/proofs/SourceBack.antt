@@ -27,7 +27,7 @@ use Rattle.df_lang.specs.Statements.{step}
 use Rattle.df_lang.specs.Sources.{source, from_line, at_line, whole}
 use Rattle.df_lang.specs.Canonical.{element_text, fixed_text, point_text, which_text, number_tokens, subgroup_tokens, mult_statements, inside_statements, kind_text, block_tokens, member_tokens, statements_in, statements_of, sections, canonical}
 use Rattle.df_lang.specs.Separated.{each_after}
-use Rattle.df_lang.specs.RoundTrip.{CanonicalLinesReadBack}
+use Rattle.df_lang.specs.RoundTrip.{CanonicalLinesReadBack, CanonicalLinesAreLines}
 use Rattle.df_lang.proofs.EachAfter.{join_after}
 use Rattle.df_lang.proofs.Lengths.{residues_small, residues_length}
 use Rattle.df_lang.proofs.EachMember.{each_from, each_append, each_map, each_so}
@@ -98,7 +98,7 @@ point_inked fs p is h =
       | inr r ↦ let past : ltb p (order_of fs) ≡ false = grind (arith, tests) in rw past (fixed_inked (p - order_of fs) (omega arith))
     ]
 
-points_inked : (fs ps : List ℕ) → IsShape fs → Each (λ p. p < 256) ps → Each IsInked (map (point_text fs) ps)
+pub points_inked : (fs ps : List ℕ) → IsShape fs → Each (λ p. p < 256) ps → Each IsInked (map (point_text fs) ps)
 points_inked fs [] is small = tt
 points_inked fs (p ∷ ps) is small = (point_inked fs p is small.0, points_inked fs ps is small.1)
 
@@ -112,7 +112,7 @@ name_byte_high b h =
 
 name_bytes_high : (bs : List ℕ) → list_all is_name_byte bs ≡ true → Each (λ b. 47 < b) bs
 name_bytes_high [] h = tt
-name_bytes_high (b ∷ bs) h = let parts = and_parts (is_name_byte b) (list_all is_name_byte bs) h in (name_byte_high b parts.0, name_bytes_high bs parts.1)
+name_bytes_high (b ∷ bs) h = let both = and_parts (is_name_byte b) (list_all is_name_byte bs) h in (name_byte_high b both.0, name_bytes_high bs both.1)
 
 first_some : (bs : List ℕ) → list_any is_letter (take 1 bs) ≡ true → 0 < length bs
 first_some [] h = absurd cc
@@ -199,10 +199,10 @@ hash_low b h = grind (arith, tests)
 feed_low : (b : ℕ) → 31 < b → is_line_feed b ≡ false
 feed_low b h = grind (arith, tests)
 
-token_from : (token : List ℕ) → IsInked token → IsToken token
+pub token_from : (token : List ℕ) → IsInked token → IsToken token
 token_from token is = record { some = is.some; filled = lacks_from is_blank 35 token blank_low is.high; plain = lacks_from is_hash 35 token hash_low is.high }
 
-line_clean : (tokens : List (List ℕ)) → Each IsInked tokens → Lacks is_line_feed (spaced tokens)
+pub line_clean : (tokens : List (List ℕ)) → Each IsInked tokens → Lacks is_line_feed (spaced tokens)
 line_clean tokens each =
     lacks_from is_line_feed 31 (spaced tokens) feed_low
     (join_high 31 32 tokens (omega arith) (each_so IsInked (λ t. Each (λ b. 31 < b) t) tokens (λ t h. each_so (λ b. 35 < b) (λ b. 31 < b) t (λ b l. omega (arith, l)) h.high) each))
@@ -230,11 +230,16 @@ whole_again : (s : Stated) → at_line 0 (whole (with_forbidden s s.forbidden)) 
 unfolding whole
 whole_again s = ap (λ (l : List ℕ). Ok (record s { mults = l })) (mults_again s.mults)
 
+-- no canonical line has a line feed
+pub lines_clean : CanonicalLinesAreLines
+unfolding canonical
+lines_clean s is = each_map (Each IsInked) (Lacks is_line_feed) spaced (statements_of s) line_clean (statements_inked s is)
+
 pub source_back : CanonicalLinesReadBack
 unfolding source canonical
 source_back s is =
     let inked = statements_inked s is in
-    let lines = lines_back (map spaced (statements_of s)) (each_map (Each IsInked) (Lacks is_line_feed) spaced (statements_of s) line_clean inked) in
+    let lines = lines_back (map spaced (statements_of s)) (lines_clean s is) in
     ap (λ l. from_line 1 nothing (map tokens_of l)) lines
     ∙ ap (from_line 1 nothing) (tokens_back_each (statements_of s) inked)
     ∙ from_line_after 1 nothing (with_forbidden s s.forbidden) (statements_of s) (statements_after s is)

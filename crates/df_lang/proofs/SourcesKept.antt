@@ -156,14 +156,17 @@ onto_lines : (b n : ℕ) (lines : List (List ℕ)) → length lines ≤ n → le
 onto_lines b n [] h = omega arith
 onto_lines b n (line ∷ lines) h = omega (arith, h)
 
-few_lines : (bytes : List ℕ) → length (lines_of bytes) ≤ length bytes
+pub few_lines : (bytes : List ℕ) → length (lines_of bytes) ≤ length bytes
 few_lines [] = omega arith
 few_lines (b ∷ bs) = by (few_lines bs) (b == 10) where
   by : length (lines_of bs) ≤ length bs → (t : Bool) → length (if t then [] ∷ lines_of bs else onto_line b (lines_of bs)) ≤ length (b ∷ bs)
   by few true = omega (arith, few)
   by few false = omega (arith, onto_lines b (length bs) (lines_of bs) few)
 
+-- a problem that lines state keeps its rules
+pub lines_kept : (lines : List (List ℕ)) (s : Stated) → length lines ≤ MOST_BYTES → from_line 1 nothing (map tokens_of lines) ≡ Ok s → IsStated s
+lines_kept lines s few h = from_line_kept 1 nothing (map tokens_of lines) s nothing_kept (omega (arith, few, length-map lines tokens_of)) h
+
 pub source_kept : (bytes : List ℕ) (s : Stated) → length bytes ≤ MOST_BYTES → source bytes ≡ Ok s → IsStated s
 unfolding source
-source_kept bytes s few h =
-    from_line_kept 1 nothing (map tokens_of (lines_of bytes)) s nothing_kept (omega (arith, few, few_lines bytes, length-map (lines_of bytes) tokens_of)) h
+source_kept bytes s few h = lines_kept (lines_of bytes) s (omega (arith, few, few_lines bytes)) h

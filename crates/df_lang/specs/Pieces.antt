@@ -4,6 +4,6 @@ use Rattle.std.specs.List.{slice_split}
 use Rattle.df_lang.specs.Values.{is_comma}
 
 -- the pieces of a text, where one remains
-abbrev pub parts_left : Option (List ℕ) → List (List ℕ)
-parts_left None = []
-parts_left (Some text) = slice_split is_comma text
+abbrev pub pieces_left : Option (List ℕ) → List (List ℕ)
+pieces_left None = []
+pieces_left (Some text) = slice_split is_comma text

@@ -30,9 +30,9 @@ is_comma b = b == 44
 -- the numbers of these pieces: one for each factor, and below it
 unfoldable pub residues_of : List ℕ → List (List ℕ) → Option (List ℕ)
 residues_of [] [] = Some []
-residues_of [] (part ∷ parts) = None
+residues_of [] (piece ∷ pieces) = None
 residues_of (f ∷ fs) [] = None
-residues_of (f ∷ fs) (part ∷ parts) = value_of part >>? λ r. if nat_lt r f then option_map (λ rs. r ∷ rs) (residues_of fs parts) else None
+residues_of (f ∷ fs) (piece ∷ pieces) = value_of piece >>? λ r. if nat_lt r f then option_map (λ rs. r ∷ rs) (residues_of fs pieces) else None
 
 -- an element, by its number: its pieces stand between commas
 unfoldable pub element_of : List ℕ → List ℕ → Option ℕ

@@ -3,7 +3,7 @@ ghost use Rattle.std.specs.Prelude.{◌≡◌, ◌≤◌, ◌<◌, ◌+◌, ◌�
 ghost use Rattle.std.specs.List.{slice_split};
 ghost use Rattle.df_group.specs.Elements.{order_of};
 ghost use Rattle.df_lang.specs.Values.{element_of, fixed_point as meant_fixed, point_of, is_comma};
-ghost use Rattle.df_lang.specs.Pieces.{parts_left};
+ghost use Rattle.df_lang.specs.Pieces.{pieces_left};
 
 use crate::tokens::number;
 use df_group::{Elem, Shape};
@@ -17,9 +17,9 @@ pub(crate) fn element(shape: &Shape, token: &[u8]) -> Option<Elem>
     let mut rest = Some(token);
     let mut place = 0u64;
     for f in shape.factors() {
-        let (part, after) = cut(rest?);
+        let (piece, after) = cut(rest?);
         rest = after;
-        let Ok(r) = number(part) else {
+        let Ok(r) = number(piece) else {
             return None;
         };
         if r >= u64::from(*f) {
@@ -65,7 +65,7 @@ fn fixed_point(shape: &Shape, fixed: u8, token: &[u8]) -> Option<Point>
 
 // The text before the first comma, and the text after it.
 fn cut<'a>(text: &'a [u8]) -> (&'a [u8], Option<&'a [u8]>)
-    ensures { slice_split is_comma text.now ≡ result.0.now ∷ parts_left (option_copied result.1) }
+    ensures { slice_split is_comma text.now ≡ result.0.now ∷ pieces_left (option_copied result.1) }
 {
     match comma_at(text) {
         Some(at) => (&text[..at], Some(&text[at + 1..])),

@@ -2,7 +2,7 @@
 ghost use Rattle.std.specs.Prelude.{◌≡◌, Ok};
 ghost use Rattle.df_io.specs.Joined.{text_of};
 ghost use Rattle.df_lang.specs.Canonical.{canonical};
-ghost use Rattle.df_lang.specs.RoundTrip.{CanonicalLinesReadBack};
+ghost use Rattle.df_lang.specs.RoundTrip.{CanonicalLinesReadBack, CanonicalLinesAreLines, PointsReadBack};
 ghost use Rattle.df_lang.specs.Sources.{source};
 
 use crate::problem::Problem;
@@ -19,3 +19,13 @@ pub fn problem_is_read_back(problem: &Problem)
     canonical_lines_are_read_back();
     let _version = problem.version;
 }
+
+/// No canonical line of a problem has a line feed: each is a line.
+pub fn canonical_lines_are_lines()
+    ensures { CanonicalLinesAreLines }
+{}
+
+/// The texts that `put_block` writes of a block's points are tokens, which `read_point` reads as these points.
+pub fn points_are_read_back()
+    ensures { PointsReadBack }
+{}

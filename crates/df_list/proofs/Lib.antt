@@ -1,1 +1,2 @@
+pub mod FaultLengths
 pub mod Lengths

@@ -1,4 +1,4 @@
--- Laws of classes of numbers and their least members.
+-- Laws of equivalent numbers and the least of them.
 use Rattle.std.proofs.Common.{◌≡◌, ℕ, zero, suc, ◌*◌, ◌<◌, ◌≤◌, Bool, true, false, cond, not, eqb, ◌&&◌, ◌||◌, refl, sym, ap, ◌∙◌, ◌⊎◌, inl, inr, arith, eq-eqb, ne_eqb}
 use Rattle.std.proofs.lemmas.Bool.{cases_lt, both_ways, not-true}
 use Rattle.df_lists.specs.Totals.{total, one}
@@ -40,7 +40,7 @@ pub first_until : (t : ℕ → Bool) (n : ℕ) → t n ≡ true → (c : ℕ) ×
 first_until t n h = elim (first_of t n) [ inl none ↦ (n, omega arith, record { passes = h; none = none }) | inr found ↦ (found.0, omega (arith, found.1), found.2) ]
 
 module _ (n : ℕ) (same : ℕ → ℕ → Bool) (is : IsSameness n same) where
-  -- the least member of the class of g is the only least one there
+  -- of the numbers equivalent to g one alone is the least
   one_least : (g : ℕ) → g < n → (c : ℕ) → c ≤ g → IsFirst (λ j. same j g) c → (h : ℕ) → h < n → (is_least same h && same h g) ≡ eqb h c
   one_least g l c k f h m = by (is_least same h) (same h g) refl refl
     where
@@ -65,7 +65,7 @@ module _ (n : ℕ) (same : ℕ → ℕ → Bool) (is : IsSameness n same) where
       by false true e x = sym (ne_eqb h c (λ y. both_ways (is_least same h) e (ap (is_least same) y ∙ least_too)))
       by false false e x = sym (ne_eqb h c (λ y. both_ways (same h g) x (ap (λ j. same j g) y ∙ f.passes)))
 
-  -- a sum over all is one over the least members, each as often as its class has members
+  -- a sum over all is one over the least members, each as often as there are numbers equivalent to it
   pub leasts : (F : ℕ → ℕ) (m : ℕ) → ((g h : ℕ) → g < n → h < n → same h g ≡ true → F g ≡ F h) → ((h : ℕ) → h < n → total (λ g. one (same h g)) n ≡ m)
       → total F n ≡ m * total (λ h. cond (is_least same h) (F h) 0) n
   leasts F m agree_here size =
@@ -103,7 +103,7 @@ any_found t n h = elim (first_of t n) [ inl none ↦ absurd (both_ways (any_belo
 pub no_lower : (same : ℕ → ℕ → Bool) (i j : ℕ) → is_least same i ≡ true → j < i → same j i ≡ false
 no_lower same i j h l = none_below (λ j. same j i) i (not-true (any_below (λ j. same j i) i) h) j l
 
--- the first number that is in the class of g is the least of its class
+-- the first number that is equivalent to g is a least one
 pub first_is_least : (n : ℕ) (same : ℕ → ℕ → Bool) → IsSameness n same → (g c : ℕ) → g < n → c ≤ g → IsFirst (λ j. same j g) c → is_least same c ≡ true
 first_is_least n same is g c l k f = ap not (none_from (λ j. same j c) c (λ j y. other j y (same j c) refl))
   where

@@ -116,3 +116,12 @@ count-filter s t (x ∷ xs) =
 pub AllByRecursion-append : {X : Type 0} (P : X → Type 0) (xs ys : List X) → AllByRecursion P xs → AllByRecursion P ys → AllByRecursion P (xs ++ ys)
 AllByRecursion-append P [] ys a b = b
 AllByRecursion-append P (x ∷ xs) ys a b = (a.0, AllByRecursion-append P xs ys a.1 b)
+
+-- and what is true of the members of a join, of those of each list
+pub all_front : {X : Type 0} (P : X → Type 0) (xs ys : List X) → AllByRecursion P (xs ++ ys) → AllByRecursion P xs
+all_front P [] ys a = tt
+all_front P (x ∷ xs) ys a = (a.0, all_front P xs ys a.1)
+
+pub all_back : {X : Type 0} (P : X → Type 0) (xs ys : List X) → AllByRecursion P (xs ++ ys) → AllByRecursion P ys
+all_back P [] ys a = a
+all_back P (x ∷ xs) ys a = all_back P xs ys a.1

@@ -1,4 +1,4 @@
--- What a test picks from a range, with one number more in the range or in the set; and a range in which it finds none.
+-- What a test picks from a range, with one number more in the range or in the set; and the first number of a range that passes it.
 use Rattle.std.proofs.Common.{◌≡◌, ℕ, zero, suc, ◌+◌, ◌<◌, ◌≤◌, ◌≢◌, Bool, true, false, cond, eqb, ltb, [], ◌∷◌, ◌++◌, filter, Some, None, sym, ap, ◌∙◌, refl, arith, tests, inl, inr}
 use Rattle.std.proofs.lemmas.Bool.{cases_lt, cases_eq, cases_Bool}
 use Rattle.std.specs.List.{range_with_len, find}
@@ -63,6 +63,20 @@ module _ (s t : ℕ → Bool) (p : ℕ) (hit : t p ≡ true) (others : (i : ℕ)
         | inl l ↦ placed_later a n l (placed (a + 1) n (omega arith) (omega arith)) (s a) refl
         | inr r ↦ placed_here a n (omega arith) (s a) refl
       ]
+
+-- the first number of a range that passes
+pub find_first : (t : ℕ → Bool) (a n k : ℕ) → a ≤ k → k < a + n → t k ≡ true → ((j : ℕ) → a ≤ j → j < k → t j ≡ false) → find t (range_with_len a n) ≡ Some k
+find_first t a zero k low high here before = absurd (omega arith)
+find_first t a (suc n) k low high here before =
+    elim (cases_lt a k) [
+      | inl less ↦ rw (before a (omega arith) less) (find_first t (a + 1) n k (omega arith) (omega arith) here (λ j l m. before j (omega arith) m))
+      | inr same ↦ let e : a ≡ k = omega arith in rw (ap t e ∙ here) (ap Some e)
+    ]
+
+-- none passes, and nothing is found
+pub find_none : (t : ℕ → Bool) (a n : ℕ) → ((j : ℕ) → a ≤ j → j < a + n → t j ≡ false) → find t (range_with_len a n) ≡ None
+find_none t a zero h = refl
+find_none t a (suc n) h = let first : t a ≡ false = h a (omega arith) (omega arith) in rw first (find_none t (a + 1) n (λ j l b. h j (omega arith) (omega arith)))
 
 -- where nothing is found, none passes
 pub none_in_range : (t : ℕ → Bool) (a n i : ℕ) → find t (range_with_len a n) ≡ None → a ≤ i → i < a + n → t i ≡ false

@@ -18,7 +18,8 @@ pub fn totals_turn()
     ensures { TotalsTurn }
 {}
 
-/// A sum whose terms agree within classes of one size is that size times the sum over the least members.
+/// A sum whose terms agree at equivalent numbers, each with the same number of them, is that number times the sum over
+/// the least members.
 pub fn sums_over_least_members()
     ensures { LeastsLaw }
 {}

@@ -3,6 +3,7 @@ mod CellEntries
 mod CellTests
 mod OrbitParts
 mod MarkLists
+mod MatrixBounds
 mod NeededCells
 mod OrbitCells
 mod PairLists

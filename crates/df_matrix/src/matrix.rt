@@ -1,6 +1,8 @@
 // The orbit matrix of a problem.
-ghost use Rattle.std.specs.Prelude.{◌≡◌, ◌⊎◌, ◌+◌, ◌<◌, ◌≤◌, ◌-◌, ◌∷◌, [], length, All, Some, None, IfOk, IfErr, IsOk};
+ghost use Rattle.std.specs.Prelude.{◌≡◌, ℕ, ◌⊎◌, ◌+◌, ◌<◌, ◌≤◌, ◌-◌, ◌∷◌, [], length, All, Some, None, IfOk, IfErr, IsOk};
+ghost use Rattle.df_lang.specs.declared.problem.TheConstants.{MOST_TARGET};
 ghost use Rattle.df_lang.specs.Problems.{point_count, IsBlock, IsStated};
+ghost use Rattle.df_walk.specs.Systems.{entry, target};
 ghost use Rattle.df_kramer_mesner.specs.OrbitSystems.{orbit_system, pairs_of, needed_of, orbits_of, columns_of, targets_of, targets_of as all_targets, maps_of_problem, pair_at, needed_at, column_at, orbit_at, entry_at, cells_of, column_number, representative};
 ghost use Rattle.df_matrix.specs.Limits.{limit_passed, or_else, column_limit, entry_limit, column_limit_of, entry_limit_of, passed_by};
 ghost use Rattle.df_matrix.specs.MatrixParts.{AreColumns, needed_places, kept_places};
@@ -11,7 +13,10 @@ use crate::columns::{
     kept_of, marked, numbers_of, orbit_cells, place_in, system_of, targets_of as targets,
 };
 use crate::orbits::ProblemOrbits;
-use df_kramer_mesner::{columns_are_sparse, orbits_are_numbered, rows_are_pairs_and_needed};
+use df_kramer_mesner::{
+    columns_are_sparse, entries_are_counts, numbers_are_few, orbits_are_numbered,
+    rows_are_pairs_and_needed,
+};
 use df_lang::Problem;
 use df_maps::Maps;
 use df_orbits::{MOST_SUMMED, OrbitError};
@@ -20,11 +25,11 @@ use df_system::System;
 use std::alloc::{AllocError, Global};
 use std::marker::Model;
 
-/// The most columns of an orbit matrix.
-pub const MOST_COLUMNS: u64 = 65_536;
+/// The most columns of an orbit matrix: those of a system.
+pub const MOST_COLUMNS: u64 = df_system::MOST_COLUMNS as u64;
 
-/// The most rows times columns of an orbit matrix of version 1.
-pub const MOST_ENTRIES: u64 = 16_777_216;
+/// The most rows times columns of an orbit matrix of version 1: the entries of a system.
+pub const MOST_ENTRIES: u64 = df_system::MOST_ENTRIES as u64;
 
 /// Why there is no orbit matrix. The limits are judged in the order of the first three; `TooManySummed` stands in the place of `TooManySubsets` for a source of version 2.
 #[derive(Clone, Copy, Debug, PartialEq, Eq)]
@@ -178,6 +183,20 @@ impl OrbitMatrix {
         self.orbits.orbit_count();
         self.kept(self.orbits.orbit_of(block))
     }
+}
+
+/// How large the numbers of a matrix can be: a law, without effect. There are at most `MOST_COLUMNS` columns, no entry is
+/// above `df_orbits::MOST_SUMMED`, and no target above `df_lang::MOST_TARGET`.
+pub fn matrix_is_bounded(matrix: &OrbitMatrix)
+    ensures columns { length (columns_of matrix.now) ≤ MOST_COLUMNS }
+    ensures entries { (row column : ℕ) → row < length (targets_of matrix.now) → column < length (columns_of matrix.now) → entry (orbit_system matrix.now) row column ≤ MOST_SUMMED }
+    ensures targets { (row : ℕ) → row < length (targets_of matrix.now) → target (orbit_system matrix.now) row ≤ MOST_TARGET }
+{
+    let _columns = matrix.kept_orbits.len();
+    matrix.orbits.orbit_count();
+    rows_are_pairs_and_needed();
+    numbers_are_few();
+    entries_are_counts();
 }
 
 /// The orbit matrix of a problem. The errors come in the order of `MatrixError`'s comment, each exactly where its number is above the limit; out of memory may come before a limit on columns or entries is judged.

@@ -219,6 +219,7 @@ impl ProblemOrbits {
     pub fn orbit_count(&self) -> usize
         ensures count { result ≡ length (orbits_of self.now) }
         ensures few { result ≤ MOST_SUMMED }
+        ensures blocks { length (all_blocks self.now) ≤ MOST_SUMMED }
         ensures stated { IsStated self.now }
     {
         self.blocks.len()

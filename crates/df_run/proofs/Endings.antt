@@ -1,8 +1,8 @@
 -- How a run ends by what its writer did.
-use Rattle.std.proofs.Common.{◌≡◌, ℕ, Bool, List, [], Option, Some, None, Ok, Err, Result, IfOk, is_ok, cond, inl, inr, refl, ap, ◌∙◌}
+use Rattle.std.proofs.Common.{◌≡◌, ℕ, Bool, List, Option, Some, None, Ok, Err, Result, IfOk, IsSome, is_ok, cond, inl, inr, refl, ap, ◌∙◌}
 use Rattle.df_io.specs.Writing.{Writes}
 use Rattle.df_io.specs.declared.bytes.WriteFault.{WriteFault}
-use Rattle.df_walk.specs.declared.Rules.TheVariants.{Divisor}
+use Rattle.df_walk.specs.declared.Rules.{Rules}
 use Rattle.df_runs.specs.Runs.{Run}
 use Rattle.df_lang.specs.Problems.{Stated}
 use Rattle.df_tell.specs.Run.{run_text, run_end, as_written}
@@ -27,7 +27,12 @@ stop_is None = refl
 stop_is (Some q) = refl
 
 -- the text of a run was written, or the sink failed
-pub run_replied : {K : Type 0} {w : K → Option (List ℕ)} {f : K → ℕ} {a b : K} (s : Stated) (options : Options) (run : Run) (ran : Result RunEnd WriteFault) (result : Status) → result ≡ ran_status ran
-    → Writes w f a b (run_text Divisor s (shown_by options) [] run) (as_written ran) → IfOk ran (λ end. end ≡ run_end run.stop) → Replies (run_answer s options run) (outgoing w f a b) result
-run_replied s options run (Ok end) result status written is = inl (status ∙ ap (λ e. ran_status (Ok e)) is ∙ stop_is run.stop, written.all)
-run_replied s options run (Err e) result status written is = inr (status, written.fault, written.prefix)
+pub run_replied : {K : Type 0} {w : K → Option (List ℕ)} {f : K → ℕ} {a b : K} (rules : Rules) (s : Stated) (options : Options) (p : List Bool) (run : Run) (ran : Result RunEnd WriteFault) (result : Status) → result ≡ ran_status ran
+    → Writes w f a b (run_text rules s (shown_by options) p run) (as_written ran) → IfOk ran (λ end. end ≡ run_end run.stop) → Replies (run_answer rules s options p run) (outgoing w f a b) result
+run_replied rules s options p run (Ok end) result status written is = inl (status ∙ ap (λ e. ran_status (Ok e)) is ∙ stop_is run.stop, written.all)
+run_replied rules s options p run (Err e) result status written is = inr (status, written.fault, written.prefix)
+
+-- what is there is this
+pub some_place : (o : Option (List Bool)) → IsSome o → (p : List Bool) × (o ≡ Some p)
+some_place None some = absurd (cc)
+some_place (Some p) some = (p, refl)

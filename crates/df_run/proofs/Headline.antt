@@ -21,24 +21,35 @@ use Rattle.df_words.specs.Reading.{command_of, CommandLineLaw}
 use Rattle.df_words.specs.declared.command.Options.{Options}
 use Rattle.df_lang.specs.RulesLaw.{SourcesKeepTheirRules}
 use Rattle.df_walk.specs.declared.Rules.TheVariants.{Divisor}
+use Rattle.df_walk.specs.Systems.{IsSystem}
+use Rattle.df_walk.specs.Paths.{IsNode, path_of}
+use Rattle.df_walk.proofs.NodeVisits.{start_of}
 use Rattle.df_runs.specs.Runs.{Run, run_of, IsRunFrom}
+use Rattle.df_search.specs.Reasons.{PathsHaveReasons}
 use Rattle.df_runs.specs.Statements.{RunsAreWhole}
 use Rattle.df_kramer_mesner.specs.Laws.{OrbitSystemsAreSystems}
 use Rattle.df_kramer_mesner.specs.OrbitSystems.{orbit_system}
 use Rattle.df_correspondence.specs.Laws.{DesignsAreSolutions}
-use Rattle.df_tell.specs.Run.{run_text}
+use Rattle.df_correspondence.specs.Designs.{asked}
+use Rattle.df_dossier.specs.Dossiers.{Refusal}
+use Rattle.df_dossier.specs.Spent.{spent}
+use Rattle.df_dossier.specs.SpentRules.{SpentKeepTheirRules}
+use Rattle.df_dossier.specs.declared.spent.Spent.{Spent}
 use Rattle.df_tell.specs.declared.limits.Limit.{Limit}
-use Rattle.df_run.specs.declared.tasks.Task.TheVariants.{Source}
-use Rattle.df_run.specs.Answers.{answer_to, verdict_answer, within, shown_by, stop_status, run_answer}
-use Rattle.df_run.specs.Limits.{matrix_limit}
+use Rattle.df_tell.specs.declared.path.PathRefusal.{PathRefusal}
+use Rattle.df_run.specs.declared.tasks.Task.TheVariants.{Source, Stream}
+use Rattle.df_run.specs.Answers.{Answer, answer_to, answer_spent, verdict_answer, within, at_node, run_answer, search_answer}
+use Rattle.df_run.specs.Limits.{matrix_limit, path_refusal}
 use Rattle.df_run.specs.Endings.{EndsAs, Answers}
-use Rattle.df_run.specs.Headline.{Headline, IsAccepted, IsRefused, IsSolved, IsSpent}
+use Rattle.df_run.specs.Headline.{Headline, IsAccepted, IsRefused, IsFinished, IsStopped, IsSolved, IsSpent, IsResumed, IsResumedSpent}
 use Rattle.df_run.specs.Streams.{Incoming, Outgoing}
 use Rattle.df_run.specs.Tasks.{task_of}
 use Rattle.df_run.specs.declared.statuses.Status.{Status}
 use Rattle.df_run.specs.declared.statuses.Status.TheVariants as ends
 use Rattle.df_run.specs.declared.tasks.SourceTask.TheVariants.{Verify, Solve}
-use Rattle.df_run.proofs.SolvedRuns.{at_start, finished_designs, finished_end, spent_designs, spent_end, spent_nodes, finished_text}
+use Rattle.df_run.specs.declared.tasks.StreamTask.TheVariants.{Resume}
+use Rattle.df_run.proofs.PathRefusals.{no_refusal}
+use Rattle.df_run.proofs.SearchRuns.{at_start, designs_all, finishes, stops}
 
 -- the first that passes is a member, and passes
 found_in : {X : Type 0} (t : X → Bool) (xs : List X) (x : X) → find t xs ≡ Some x → In xs x × (t x ≡ true)
@@ -82,49 +93,47 @@ module _ (balance : BalanceLaw) (verdict : VerdictLaw) (s : Stated) (rules : IsS
 one_command : CommandLineLaw → (words : List (List ℕ)) (a b : Command) → IsCommandLine words a → IsCommandLine words b → a ≡ b
 one_command law words a b line other = same_Some a b (sym ((law words a).1 line) ∙ (law words b).1 other)
 
-module _ (theorem : DesignsAreSolutions) (s : Stated) (rules : IsStated s) (options : Options) (o : Outgoing) (bytes : List ℕ) (is : source bytes ≡ Ok s) (run : Run) (whole : IsRunFrom Divisor (orbit_system s) [] options.budget run) where
-  -- the run of a search is done: nothing remains
-  solves : (stop : Option (List Bool)) → run.stop ≡ stop → ends.Done ≡ stop_status stop → Appends o.written o.written_after (run_text Divisor s (shown_by options) [] run) → IsSolved options o bytes
-  solves None none status text =
-      let end = finished_end s options.budget run whole none in record {
-        problem = s;
-        source_is = is;
-        taken = run.taken;
-        printed = subst (λ stop. Appends o.written o.written_after (run_text Divisor s (shown_by options) [] record { taken = run.taken; stop = stop })) none text;
-        designs = finished_designs s options.budget run whole (theorem s rules) none;
-        nodes = end.0;
-        paid = end.1;
-        silent = λ quiet. subst (Appends o.written o.written_after) (finished_text s options.budget run whole (shown_by options) (theorem s rules) quiet none) text;
-      }
-  solves (Some q) some status text = absurd (cc)
+module _ (options : Options) (o : Outgoing) where
+  -- the answer of a search that its problem's limits allow
+  solves : (theorem : DesignsAreSolutions) (s : Stated) → IsStated s → (run : Run) → IsRunFrom Divisor (orbit_system s) [] options.budget run → (limit : Option Limit) → ends.Done ≡ (within limit (run_answer Divisor s options [] run)).status → Appends o.written o.written_after (within limit (run_answer Divisor s options [] run)).text → IsFinished Divisor s [] (asked s) options o
+  solves theorem s rules run whole None status text = subst (λ designs. IsFinished Divisor s [] designs options o) (designs_all s (theorem s rules)) (finishes Divisor s [] options o run whole run.stop refl status text)
+  solves theorem s rules run whole (Some limit) status text = absurd (cc)
 
-  -- it is spent: it stopped at a node
-  spends : (stop : Option (List Bool)) → run.stop ≡ stop → ends.Spent ≡ stop_status stop → Appends o.written o.written_after (run_text Divisor s (shown_by options) [] run) → IsSpent options o bytes
-  spends None none status text = absurd (cc)
-  spends (Some q) some status text =
-      let end = spent_end s options.budget run whole q some in record {
-        problem = s;
-        source_is = is;
-        taken = run.taken;
-        place = q;
-        printed = subst (λ stop. Appends o.written o.written_after (run_text Divisor s (shown_by options) [] record { taken = run.taken; stop = stop })) some text;
-        designs = spent_designs s options.budget run whole q (theorem s rules) some;
-        node = end.2;
-        visited = end.0;
-        before = spent_nodes s options.budget run whole q some;
-        unpaid = end.1;
-      }
+  spends : (theorem : DesignsAreSolutions) (s : Stated) → IsStated s → (run : Run) → IsRunFrom Divisor (orbit_system s) [] options.budget run → (limit : Option Limit) → ends.Spent ≡ (within limit (run_answer Divisor s options [] run)).status → Appends o.written o.written_after (within limit (run_answer Divisor s options [] run)).text → IsStopped Divisor s [] (asked s) options o
+  spends theorem s rules run whole None status text = subst (λ designs. IsStopped Divisor s [] designs options o) (designs_all s (theorem s rules)) (stops Divisor s [] options o run whole run.stop refl status text)
+  spends theorem s rules run whole (Some limit) status text = absurd (cc)
 
-  -- within the limits
-  solves_within : (limit : Option Limit) → ends.Done ≡ (within limit (run_answer s options run)).status → Appends o.written o.written_after (within limit (run_answer s options run)).text → IsSolved options o bytes
-  solves_within None status text = solves run.stop refl status text
-  solves_within (Some limit) status text = absurd (cc)
+  -- the answer of one that goes on at a node
+  module _ (runs : RunsAreWhole) (reasons : PathsHaveReasons) (d : Spent) (system : IsSystem (orbit_system d.problem)) where
+    abbrev goes_on : Answer
+    goes_on = search_answer d.rules d.problem options (path_of d.path)
 
-  spends_within : (limit : Option Limit) → ends.Spent ≡ (within limit (run_answer s options run)).status → Appends o.written o.written_after (within limit (run_answer s options run)).text → IsSpent options o bytes
-  spends_within None status text = spends run.stop refl status text
-  spends_within (Some limit) status text = absurd (cc)
+    from_node : IsNode d.rules (orbit_system d.problem) (path_of d.path) → IsRunFrom d.rules (orbit_system d.problem) (path_of d.path) options.budget (run_of d.rules (orbit_system d.problem) (path_of d.path) options.budget)
+    from_node node = runs d.rules (orbit_system d.problem) (path_of d.path) options.budget system (start_of d.rules (orbit_system d.problem) (path_of d.path) node)
 
-module _ (keep : SourcesKeepTheirRules) (lines : CommandLineLaw) (balance : BalanceLaw) (verdict : VerdictLaw) (systems : OrbitSystemsAreSystems) (runs : RunsAreWhole) (theorem : DesignsAreSolutions) (i : Incoming) (o : Outgoing) where
+    resumes : (bytes : List ℕ) → spent bytes ≡ Ok d → (limit : Option Limit) (refusal : Option PathRefusal) → path_refusal d.rules (orbit_system d.problem) d.path ≡ refusal → ends.Done ≡ (within limit (at_node refusal goes_on)).status → Appends o.written o.written_after (within limit (at_node refusal goes_on)).text → IsResumed options o bytes
+    resumes bytes is None None fits status text =
+        let node = no_refusal reasons d.rules (orbit_system d.problem) d.path fits in record {
+          dossier = d;
+          dossier_is = is;
+          node = node;
+          search = finishes d.rules d.problem (path_of d.path) options o _ (from_node node) _ refl status text;
+        }
+    resumes bytes is None (Some refusal) fits status text = absurd (cc)
+    resumes bytes is (Some limit) refusal fits status text = absurd (cc)
+
+    stays_spent : (bytes : List ℕ) → spent bytes ≡ Ok d → (limit : Option Limit) (refusal : Option PathRefusal) → path_refusal d.rules (orbit_system d.problem) d.path ≡ refusal → ends.Spent ≡ (within limit (at_node refusal goes_on)).status → Appends o.written o.written_after (within limit (at_node refusal goes_on)).text → IsResumedSpent options o bytes
+    stays_spent bytes is None None fits status text =
+        let node = no_refusal reasons d.rules (orbit_system d.problem) d.path fits in record {
+          dossier = d;
+          dossier_is = is;
+          node = node;
+          search = stops d.rules d.problem (path_of d.path) options o _ (from_node node) _ refl status text;
+        }
+    stays_spent bytes is None (Some refusal) fits status text = absurd (cc)
+    stays_spent bytes is (Some limit) refusal fits status text = absurd (cc)
+
+module _ (keep : SourcesKeepTheirRules) (keep_spent : SpentKeepTheirRules) (lines : CommandLineLaw) (balance : BalanceLaw) (verdict : VerdictLaw) (systems : OrbitSystemsAreSystems) (runs : RunsAreWhole) (reasons : PathsHaveReasons) (theorem : DesignsAreSolutions) (i : Incoming) (o : Outgoing) where
   -- what `verify` answers to these bytes
   done_with : (bytes : List ℕ) → length bytes ≤ MOST_BYTES → (r : Result Stated SourceError) → source bytes ≡ r → ends.Done ≡ (answer_to Verify r).status → Appends o.written o.written_after (answer_to Verify r).text → IsAccepted o bytes
   done_with bytes few (Ok s) is status text = accepts balance verdict s (keep bytes s few is) bytes o is (find is_wrong (table s)) refl status text
@@ -136,19 +145,28 @@ module _ (keep : SourcesKeepTheirRules) (lines : CommandLineLaw) (balance : Bala
 
   -- what `solve` answers to them
   whole_run : (s : Stated) → IsStated s → (n : ℕ) → IsRunFrom Divisor (orbit_system s) [] n (run_of Divisor (orbit_system s) [] n)
-  whole_run s rules n = runs Divisor (orbit_system s) [] n (systems s rules) (at_start (orbit_system s))
+  whole_run s rules n = runs Divisor (orbit_system s) [] n (systems s rules) (at_start Divisor (orbit_system s))
 
   solved_with : (options : Options) (bytes : List ℕ) → length bytes ≤ MOST_BYTES → (r : Result Stated SourceError) → source bytes ≡ r → ends.Done ≡ (answer_to (Solve options) r).status → Appends o.written o.written_after (answer_to (Solve options) r).text → IsSolved options o bytes
   solved_with options bytes few (Ok s) is status text =
       let rules = keep bytes s few is in
-      solves_within theorem s rules options o bytes is (run_of Divisor (orbit_system s) [] options.budget) (whole_run s rules options.budget) (matrix_limit s) status text
+      record { problem = s; source_is = is; search = solves options o theorem s rules _ (whole_run s rules options.budget) (matrix_limit s) status text }
   solved_with options bytes few (Err e) is status text = absurd (cc)
 
   spent_with : (options : Options) (bytes : List ℕ) → length bytes ≤ MOST_BYTES → (r : Result Stated SourceError) → source bytes ≡ r → ends.Spent ≡ (answer_to (Solve options) r).status → Appends o.written o.written_after (answer_to (Solve options) r).text → IsSpent options o bytes
   spent_with options bytes few (Ok s) is status text =
       let rules = keep bytes s few is in
-      spends_within theorem s rules options o bytes is (run_of Divisor (orbit_system s) [] options.budget) (whole_run s rules options.budget) (matrix_limit s) status text
+      record { problem = s; source_is = is; search = spends options o theorem s rules _ (whole_run s rules options.budget) (matrix_limit s) status text }
   spent_with options bytes few (Err e) is status text = absurd (cc)
+
+  -- what `resume` answers to them
+  resumed_with : (options : Options) (bytes : List ℕ) → length bytes ≤ MOST_BYTES → (r : Result Spent Refusal) → spent bytes ≡ r → ends.Done ≡ (answer_spent options r).status → Appends o.written o.written_after (answer_spent options r).text → IsResumed options o bytes
+  resumed_with options bytes few (Ok d) is status text = resumes options o runs reasons d (systems d.problem (keep_spent bytes d few is)) bytes is (matrix_limit d.problem) _ refl status text
+  resumed_with options bytes few (Err e) is status text = absurd (cc)
+
+  stays_with : (options : Options) (bytes : List ℕ) → length bytes ≤ MOST_BYTES → (r : Result Spent Refusal) → spent bytes ≡ r → ends.Spent ≡ (answer_spent options r).status → Appends o.written o.written_after (answer_spent options r).text → IsResumedSpent options o bytes
+  stays_with options bytes few (Ok d) is status text = stays_spent options o runs reasons d (systems d.problem (keep_spent bytes d few is)) bytes is (matrix_limit d.problem) _ refl status text
+  stays_with options bytes few (Err e) is status text = absurd (cc)
 
   -- where the words ask for a command, how the run ends is how its task does
   asks : (words : List (List ℕ)) (result : Status) (command : Command) → EndsAs words i o result → IsCommandLine words command → (result ≡ ends.Usage → ⊥) → (result ≡ ends.WriteFault → ⊥) → Answers (task_of command) i o result
@@ -173,4 +191,10 @@ module _ (keep : SourcesKeepTheirRules) (lines : CommandLineLaw) (balance : Bala
     spent = λ options line spent.
         let answers = subst (λ r. Answers (Source (Solve options)) i o r) spent (asks words result (commands.Solve options) ended line (λ usage. absurd (cc)) (λ fault. absurd (cc))) in
         IfSome_then i.left answers.1.1 (λ bytes read. spent_with options bytes (omega (arith, read.0)) (source bytes) refl read.1.0 read.1.1);
+    resumed = λ options line done.
+        let answers = subst (λ r. Answers (Stream (Resume options)) i o r) done (asks words result (commands.Resume options) ended line (λ usage. absurd (cc)) (λ fault. absurd (cc))) in
+        IfSome_then i.left answers.1 (λ bytes read. resumed_with options bytes (omega (arith, read.0)) (spent bytes) refl read.1.0 read.1.1);
+    resumed_spent = λ options line stops.
+        let answers = subst (λ r. Answers (Stream (Resume options)) i o r) stops (asks words result (commands.Resume options) ended line (λ usage. absurd (cc)) (λ fault. absurd (cc))) in
+        IfSome_then i.left answers.1.1 (λ bytes read. stays_with options bytes (omega (arith, read.0)) (spent bytes) refl read.1.0 read.1.1);
   }

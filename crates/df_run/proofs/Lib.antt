@@ -1,5 +1,7 @@
 pub mod Endings
-pub mod SolvedRuns
+pub mod PathRefusals
+pub mod StreamEndings
+pub mod SearchRuns
 pub mod Headline
 pub mod EntryLimits
 pub mod BlockLimits

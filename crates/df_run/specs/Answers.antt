@@ -1,6 +1,8 @@
 -- What is answered to an input: a status and a text. What a row says stands in the module of that text, in df_tell.
 use Rattle.std.specs.Prelude.{ℕ, Bool, List, [], Option, Some, None, Result, Ok, Err}
+use Rattle.df_walk.specs.declared.Rules.{Rules}
 use Rattle.df_walk.specs.declared.Rules.TheVariants.{Divisor}
+use Rattle.df_walk.specs.Paths.{path_of}
 use Rattle.df_runs.specs.Runs.{Run, run_of}
 use Rattle.df_lang.specs.Problems.{Stated}
 use Rattle.df_lang.specs.Sources.{source}
@@ -9,6 +11,9 @@ use Rattle.df_family.specs.Verdicts.{verdict_on}
 use Rattle.df_family.specs.declared.verdict.Verdict.{Verdict}
 use Rattle.df_family.specs.declared.verdict.Verdict.TheVariants.{Accepted, Refused}
 use Rattle.df_kramer_mesner.specs.OrbitSystems.{orbit_system}
+use Rattle.df_dossier.specs.Dossiers.{Refusal}
+use Rattle.df_dossier.specs.Spent.{spent}
+use Rattle.df_dossier.specs.declared.spent.Spent.{Spent}
 use Rattle.df_tell.specs.Canonical.{canonical_text}
 use Rattle.df_tell.specs.Table.{table_text}
 use Rattle.df_tell.specs.Verdict.{verdict_text}
@@ -16,17 +21,22 @@ use Rattle.df_tell.specs.Orbits.{orbits_text}
 use Rattle.df_tell.specs.Matrix.{matrix_text}
 use Rattle.df_tell.specs.Run.{run_text}
 use Rattle.df_tell.specs.Refusal.{refusal_text}
+use Rattle.df_tell.specs.Dossier.{dossier_text}
+use Rattle.df_tell.specs.Path.{path_refusal_text}
 use Rattle.df_tell.specs.Limits.{limit_text}
 use Rattle.df_tell.specs.declared.limits.Limit.{Limit}
+use Rattle.df_tell.specs.declared.path.PathRefusal.{PathRefusal}
 use Rattle.df_tell.specs.declared.run.Shown.{Shown}
 use Rattle.df_words.specs.declared.command.Options.{Options}
-use Rattle.df_run.specs.Limits.{subsets_limit, matrix_limit}
+use Rattle.df_run.specs.Limits.{subsets_limit, matrix_limit, path_refusal}
 use Rattle.df_run.specs.declared.statuses.Status.{Status}
 use Rattle.df_run.specs.declared.statuses.Status.TheVariants as ends
 use Rattle.df_run.specs.declared.tasks.Task.{Task}
-use Rattle.df_run.specs.declared.tasks.Task.TheVariants.{Source}
+use Rattle.df_run.specs.declared.tasks.Task.TheVariants.{Source, Stream}
 use Rattle.df_run.specs.declared.tasks.SourceTask.{SourceTask}
 use Rattle.df_run.specs.declared.tasks.SourceTask.TheVariants.{Show, Table, Verify, Orbits, Matrix, Solve}
+use Rattle.df_run.specs.declared.tasks.StreamTask.{StreamTask}
+use Rattle.df_run.specs.declared.tasks.StreamTask.TheVariants.{Resume}
 
 pub record Answer : Type 0 where
   pub status : Status
@@ -42,6 +52,11 @@ bad_input text = record { status = ends.BadInput; text = text }
 abbrev pub within : Option Limit → Answer → Answer
 within None answer = answer
 within (Some limit) answer = bad_input (limit_text limit)
+
+-- the answer to a path at which a search can go on, and else why it can't
+abbrev pub at_node : Option PathRefusal → Answer → Answer
+at_node None answer = answer
+at_node (Some refusal) answer = bad_input (path_refusal_text refusal)
 
 abbrev pub verdict_status : Verdict → Status
 verdict_status (Accepted blocks) = ends.Done
@@ -59,23 +74,42 @@ abbrev pub stop_status : Option (List Bool) → Status
 stop_status None = ends.Done
 stop_status (Some place) = ends.Spent
 
-abbrev pub run_answer : Stated → Options → Run → Answer
-run_answer s options run = record { status = stop_status run.stop; text = run_text Divisor s (shown_by options) [] run }
+-- a run by these rules from a path
+abbrev pub run_answer : Rules → Stated → Options → List Bool → Run → Answer
+run_answer rules s options p run = record { status = stop_status run.stop; text = run_text rules s (shown_by options) p run }
 
--- what is answered to a problem; a search goes by the rules with divisors, from the empty path
+-- the search through the orbit matrix of a problem by these rules from a path, as far as the budget goes
+abbrev pub search_answer : Rules → Stated → Options → List Bool → Answer
+search_answer rules s options p = run_answer rules s options p (run_of rules (orbit_system s) p options.budget)
+
+-- what is answered to a problem; a new search goes by the rules with divisors, from the empty path
 abbrev pub answer_on : SourceTask → Stated → Answer
 answer_on Show s = done (canonical_text s)
 answer_on Table s = done (table_text s)
 answer_on Verify s = verdict_answer s (verdict_on s)
 answer_on Orbits s = within (subsets_limit s) (done (orbits_text s))
 answer_on Matrix s = within (matrix_limit s) (done (matrix_text s))
-answer_on (Solve options) s = within (matrix_limit s) (run_answer s options (run_of Divisor (orbit_system s) [] options.budget))
+answer_on (Solve options) s = within (matrix_limit s) (search_answer Divisor s options [])
 
 -- to a source, or to an input that is none
 abbrev pub answer_to : SourceTask → Result Stated SourceError → Answer
 answer_to task (Ok s) = answer_on task s
 answer_to task (Err e) = bad_input (refusal_text e)
 
+-- what is answered to a dossier that ended spent: its search goes on by the rules of its head, from the path of its end line
+abbrev pub answer_resumed : Options → Spent → Answer
+answer_resumed options d =
+    within (matrix_limit d.problem) (at_node (path_refusal d.rules (orbit_system d.problem) d.path) (search_answer d.rules d.problem options (path_of d.path)))
+
+-- to such a dossier, or to an input that is none
+abbrev pub answer_spent : Options → Result Spent Refusal → Answer
+answer_spent options (Ok d) = answer_resumed options d
+answer_spent options (Err e) = bad_input (dossier_text e)
+
+abbrev pub answer_stream : StreamTask → List ℕ → Answer
+answer_stream (Resume options) bytes = answer_spent options (spent bytes)
+
 -- what a task answers to these bytes
 abbrev pub answer : Task → List ℕ → Answer
 answer (Source task) bytes = answer_to task (source bytes)
+answer (Stream task) bytes = answer_stream task bytes

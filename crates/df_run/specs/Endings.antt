@@ -12,8 +12,9 @@ use Rattle.df_run.specs.Tasks.{task_of}
 use Rattle.df_run.specs.declared.statuses.Status.{Status}
 use Rattle.df_run.specs.declared.statuses.Status.TheVariants as ends
 use Rattle.df_run.specs.declared.tasks.Task.{Task}
-use Rattle.df_run.specs.declared.tasks.Task.TheVariants.{Source}
+use Rattle.df_run.specs.declared.tasks.Task.TheVariants.{Source, Stream}
 use Rattle.df_run.specs.declared.tasks.SourceTask.TheVariants.{Show, Table, Verify, Orbits, Matrix, Solve}
+use Rattle.df_run.specs.declared.tasks.StreamTask.TheVariants.{Resume}
 
 -- the text was written and the status answered, or the sink failed before the text's end
 abbrev pub Replies : Answer → Outgoing → Status → Type 0
@@ -37,6 +38,7 @@ HasBudget (Source Verify) = ⊥
 HasBudget (Source Orbits) = ⊥
 HasBudget (Source Matrix) = ⊥
 HasBudget (Source (Solve options)) = Unit {0}
+HasBudget (Stream (Resume options)) = Unit {0}
 
 -- when a task ends with each status, and what was then read and written
 abbrev pub Answers : Task → Incoming → Outgoing → Status → Type 0

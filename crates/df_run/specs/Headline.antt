@@ -3,9 +3,10 @@ use Rattle.std.specs.Prelude.{◌≡◌, ℕ, ◌+◌, ◌≤◌, ◌<◌, Bool,
 use Rattle.std.specs.List.{flat_map}
 use Rattle.std.specs.Io.KnownBytes.{Appends}
 use Rattle.df_lists.specs.Membership.{In}
+use Rattle.df_walk.specs.declared.Rules.{Rules}
 use Rattle.df_walk.specs.declared.Rules.TheVariants.{Divisor}
 use Rattle.df_walk.specs.Walks.{Step, solutions_in, nodes_in}
-use Rattle.df_walk.specs.Paths.{IsNode, load}
+use Rattle.df_walk.specs.Paths.{IsNode, load, path_of}
 use Rattle.df_runs.specs.Runs.{Run}
 use Rattle.df_lang.specs.Problems.{Stated}
 use Rattle.df_lang.specs.Balance.{IsBalanced}
@@ -16,12 +17,14 @@ use Rattle.df_family.specs.declared.table.Row.{Row}
 use Rattle.df_kramer_mesner.specs.OrbitSystems.{orbit_system}
 use Rattle.df_correspondence.specs.Designs.{asked, design}
 use Rattle.df_design.specs.RemainingDesigns.{designs_from}
+use Rattle.df_dossier.specs.Spent.{spent}
+use Rattle.df_dossier.specs.declared.spent.Spent.{Spent}
 use Rattle.df_tell.specs.Verdict.{accepted_text}
 use Rattle.df_tell.specs.Run.{head_text, source_text, from_text, design_lines, end_text, run_text}
 use Rattle.df_tell.specs.declared.run.Shown.{Shown}
 use Rattle.df_words.specs.CommandLines.{IsCommandLine}
 use Rattle.df_words.specs.declared.command.Options.{Options}
-use Rattle.df_words.specs.declared.command.Command.TheVariants.{Solve}
+use Rattle.df_words.specs.declared.command.Command.TheVariants.{Solve, Resume}
 use Rattle.df_run.specs.Answers.{shown_by}
 use Rattle.df_run.specs.Streams.{Incoming, Outgoing}
 use Rattle.df_run.specs.declared.statuses.Status.{Status}
@@ -56,43 +59,66 @@ spent_run taken place = record { taken = taken; stop = Some place }
 abbrev pub designs_in : Stated → List Step → List (List (List ℕ))
 designs_in s taken = map (design s) (solutions_in (orbit_system s) taken)
 
--- how many nodes the search for a problem's designs has
-abbrev pub all_nodes : Stated → ℕ
-all_nodes s = load Divisor (orbit_system s) []
+-- how many nodes the search for a problem's designs by these rules has from a path on
+abbrev pub nodes_from : Rules → Stated → List Bool → ℕ
+nodes_from rules s p = load rules (orbit_system s) p
 
--- the text of a search without a log, to its end: head, source, every design that is asked for, and how many they are
-abbrev pub designs_text : Shown → Stated → List ℕ
-designs_text shown s =
-    head_text Divisor ++ (source_text s ++ (from_text [] ++ (flat_map (design_lines shown s) (asked s) ++ end_text (length (asked s)) (all_nodes s) None)))
+-- the text of a search without a log from a path to its end: head, source, where it began, these designs, and how many they are
+abbrev pub designs_text : Rules → Stated → Shown → List Bool → List (List (List ℕ)) → List ℕ
+designs_text rules s shown p designs =
+    head_text rules ++ (source_text s ++ (from_text p ++ (flat_map (design_lines shown s) designs ++ end_text (length designs) (nodes_from rules s p) None)))
 
--- a source; the designs printed are all that its problem asks for, in their order, and the budget pays for all nodes
+-- a search from a path to its end: the designs printed are these, in this order; it visited all nodes from the path on, for which
+-- the budget pays; and without a log the text has nothing else
+pub record IsFinished (rules : Rules) (s : Stated) (p : List Bool) (designs : List (List (List ℕ))) (options : Options) (o : Outgoing) : Type 0 where
+  pub taken : List Step
+  pub printed : Appends o.written o.written_after (run_text rules s (shown_by options) p (finished_run taken))
+  pub designs_are : designs_in s taken ≡ designs
+  pub nodes : length (nodes_in taken) ≡ nodes_from rules s p
+  pub paid : nodes_from rules s p ≤ options.budget
+  pub silent : options.log ≡ false → Appends o.written o.written_after (designs_text rules s (shown_by options) p designs)
+
+-- a search from a path to a stop: the text ends with a place. The designs printed and those from the place on are these, in this order;
+-- the place is a node; the nodes visited, as many as the budget, and those from the place on are all nodes from the path on, of
+-- which there are more than the budget
+pub record IsStopped (rules : Rules) (s : Stated) (p : List Bool) (designs : List (List (List ℕ))) (options : Options) (o : Outgoing) : Type 0 where
+  pub taken : List Step
+  pub place : List Bool
+  pub printed : Appends o.written o.written_after (run_text rules s (shown_by options) p (spent_run taken place))
+  pub designs_are : designs_in s taken ++ designs_from s place ≡ designs
+  pub node : IsNode rules (orbit_system s) place
+  pub visited : length (nodes_in taken) ≡ options.budget
+  pub before : options.budget + nodes_from rules s place ≡ nodes_from rules s p
+  pub unpaid : options.budget < nodes_from rules s p
+
+-- a source, and a search for all designs that its problem asks for
 pub record IsSolved (options : Options) (o : Outgoing) (bytes : List ℕ) : Type 0 where
   pub problem : Stated
   pub source_is : source bytes ≡ Ok problem
-  pub taken : List Step
-  pub printed : Appends o.written o.written_after (run_text Divisor problem (shown_by options) [] (finished_run taken))
-  pub designs : designs_in problem taken ≡ asked problem
-  pub nodes : length (nodes_in taken) ≡ all_nodes problem
-  pub paid : all_nodes problem ≤ options.budget
-  pub silent : options.log ≡ false → Appends o.written o.written_after (designs_text (shown_by options) problem)
+  pub search : IsFinished Divisor problem [] (asked problem) options o
 
--- a source; the text ends with a place. The designs printed and those from the place on are all that its problem asks for,
--- in their order; the place is a node; the nodes visited, as many as the budget, and those not before the place are all nodes,
--- of which there are more than the budget
 pub record IsSpent (options : Options) (o : Outgoing) (bytes : List ℕ) : Type 0 where
   pub problem : Stated
   pub source_is : source bytes ≡ Ok problem
-  pub taken : List Step
-  pub place : List Bool
-  pub printed : Appends o.written o.written_after (run_text Divisor problem (shown_by options) [] (spent_run taken place))
-  pub designs : designs_in problem taken ++ designs_from problem place ≡ asked problem
-  pub node : IsNode Divisor (orbit_system problem) place
-  pub visited : length (nodes_in taken) ≡ options.budget
-  pub before : options.budget + load Divisor (orbit_system problem) place ≡ all_nodes problem
-  pub unpaid : options.budget < all_nodes problem
+  pub search : IsStopped Divisor problem [] (asked problem) options o
+
+-- a dossier that ended spent at a node, and a search by the rules of its head for the designs from there on
+pub record IsResumed (options : Options) (o : Outgoing) (bytes : List ℕ) : Type 0 where
+  pub dossier : Spent
+  pub dossier_is : spent bytes ≡ Ok dossier
+  pub node : IsNode dossier.rules (orbit_system dossier.problem) (path_of dossier.path)
+  pub search : IsFinished dossier.rules dossier.problem (path_of dossier.path) (designs_from dossier.problem (path_of dossier.path)) options o
+
+pub record IsResumedSpent (options : Options) (o : Outgoing) (bytes : List ℕ) : Type 0 where
+  pub dossier : Spent
+  pub dossier_is : spent bytes ≡ Ok dossier
+  pub node : IsNode dossier.rules (orbit_system dossier.problem) (path_of dossier.path)
+  pub search : IsStopped dossier.rules dossier.problem (path_of dossier.path) (designs_from dossier.problem (path_of dossier.path)) options o
 
 pub record Headline (words : List (List ℕ)) (i : Incoming) (o : Outgoing) (result : Status) : Type 0 where
   pub verified : words ≡ codes "verify" ∷ [] → result ≡ ends.Done → IfSome i.left (IsAccepted o)
   pub refused : words ≡ codes "verify" ∷ [] → result ≡ ends.Refused → IfSome i.left IsRefused
   pub solved : (options : Options) → IsCommandLine words (Solve options) → result ≡ ends.Done → IfSome i.left (IsSolved options o)
   pub spent : (options : Options) → IsCommandLine words (Solve options) → result ≡ ends.Spent → IfSome i.left (IsSpent options o)
+  pub resumed : (options : Options) → IsCommandLine words (Resume options) → result ≡ ends.Done → IfSome i.left (IsResumed options o)
+  pub resumed_spent : (options : Options) → IsCommandLine words (Resume options) → result ≡ ends.Spent → IfSome i.left (IsResumedSpent options o)

@@ -2,14 +2,16 @@
 use Rattle.std.specs.Prelude.{◌≡◌, ◌≤◌, ◌+◌, ℕ, List, length, IfSome}
 use Rattle.std.specs.Io.KnownBytes.{Consumes, IsAtEnd}
 use Rattle.df_io.specs.Causes.{Rose, ConsumesAtMost}
+use Rattle.df_io.specs.declared.bytes.TheConstants.{MOST_BYTES}
 use Rattle.df_run.specs.Streams.{Incoming}
 use Rattle.df_run.specs.declared.tasks.Task.{Task}
-use Rattle.df_run.specs.declared.tasks.Task.TheVariants.{Source}
+use Rattle.df_run.specs.declared.tasks.Task.TheVariants.{Source, Stream}
 use Rattle.df_run.specs.declared.tasks.TheConstants.{SOURCE_BYTES}
 
 -- the most bytes that the input of a task may have
 abbrev pub limit_on : Task → ℕ
 limit_on (Source task) = SOURCE_BYTES
+limit_on (Stream task) = MOST_BYTES
 
 -- all bytes came, no more than this, and this holds of them
 abbrev pub IsAllOf : ℕ → Incoming → (List ℕ → Type 0) → Type 0
@@ -18,6 +20,7 @@ IsAllOf most i P = IsAtEnd i.left_after × IfSome i.left (λ bytes. (length byte
 -- all of a task's input was read, and this holds of it
 abbrev pub OfInput : Task → Incoming → (List ℕ → Type 0) → Type 0
 OfInput (Source task) i P = IsAllOf (limit_on (Source task)) i P
+OfInput (Stream task) i P = IsAllOf (limit_on (Stream task)) i P
 
 -- a read failed, and no more bytes than this had come
 abbrev pub StopsWithin : ℕ → Incoming → Type 0
@@ -25,6 +28,7 @@ StopsWithin most i = ConsumesAtMost i.left i.left_after most × Rose i.faults i.
 
 abbrev pub FailsToRead : Task → Incoming → Type 0
 FailsToRead (Source task) i = StopsWithin (limit_on (Source task)) i
+FailsToRead (Stream task) i = StopsWithin (limit_on (Stream task)) i
 
 -- one byte more than this came
 abbrev pub IsLongerThan : ℕ → Incoming → Type 0
@@ -32,3 +36,4 @@ IsLongerThan most i = (bytes : List ℕ) × Consumes i.left i.left_after bytes �
 
 abbrev pub IsTooLong : Task → Incoming → Type 0
 IsTooLong (Source task) i = IsLongerThan (limit_on (Source task)) i
+IsTooLong (Stream task) i = IsLongerThan (limit_on (Stream task)) i

@@ -2,8 +2,9 @@
 use Rattle.df_words.specs.declared.command.Command.{Command}
 use Rattle.df_words.specs.declared.command.Command.TheVariants as command
 use Rattle.df_run.specs.declared.tasks.Task.{Task}
-use Rattle.df_run.specs.declared.tasks.Task.TheVariants.{Source}
+use Rattle.df_run.specs.declared.tasks.Task.TheVariants.{Source, Stream}
 use Rattle.df_run.specs.declared.tasks.SourceTask.TheVariants.{Show, Table, Verify, Orbits, Matrix, Solve}
+use Rattle.df_run.specs.declared.tasks.StreamTask.TheVariants.{Resume}
 
 abbrev pub task_of : Command → Task
 task_of command.Show = Source Show
@@ -12,3 +13,4 @@ task_of command.Verify = Source Verify
 task_of command.Orbits = Source Orbits
 task_of command.Matrix = Source Matrix
 task_of (command.Solve options) = Source (Solve options)
+task_of (command.Resume options) = Stream (Resume options)

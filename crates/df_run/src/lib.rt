@@ -7,7 +7,9 @@ mod answers;
 mod limits;
 mod matrix;
 mod orbits;
+mod resume;
 mod runs;
+mod search;
 mod solve;
 mod statuses;
 mod tasks;
@@ -18,6 +20,8 @@ pub use statuses::Status;
 pub use tasks::SOURCE_BYTES;
 
 #[cfg(test)]
+mod chain_tests;
+#[cfg(test)]
 mod design_tests;
 #[cfg(test)]
 mod matrix_tests;
@@ -25,6 +29,10 @@ mod matrix_tests;
 mod orbit_tests;
 #[cfg(test)]
 mod plain_designs;
+#[cfg(test)]
+mod refusal_tests;
+#[cfg(test)]
+mod resume_tests;
 #[cfg(test)]
 mod solve_tests;
 #[cfg(test)]

@@ -5,14 +5,17 @@ ghost use Rattle.df_run.specs.Headline.{Headline};
 ghost use Rattle.df_run.specs.Streams.{incoming, outgoing};
 
 use crate::answers::{answer_bytes, ended};
+use crate::resume::answer_resume;
 use crate::statuses::Status;
-use crate::tasks::{SOURCE_BYTES, SourceTask, Task};
+use crate::tasks::{SOURCE_BYTES, SourceTask, StreamTask, Task};
 use df_correspondence::designs_are_solutions;
+use df_dossier::spent_dossiers_keep_their_rules;
 use df_family::{table_tells_balance, verdict_tells_balance};
 use df_io::{ReadError, Sink, Source, read_all};
 use df_kramer_mesner::orbit_systems_are_systems;
 use df_lang::sources_keep_their_rules;
 use df_runs::laws::runs_are_whole;
+use df_search::paths_have_reasons;
 use df_tell::write_usage;
 use df_words::{commands_are_their_lines, read_words};
 use std::alloc::Global;
@@ -20,9 +23,10 @@ use std::alloc::Global;
 /// Runs the command of the words over an input, and writes its text.
 ///
 /// `Usage` comes where the words are not a command, and nothing is read then. Else `ReadFault` and `TooLong` come where
-/// the input was not read to its end; `BadInput` where it is not a source, or the problem is above a limit of the command;
-/// `Refused` only from `verify`; `Spent` only from `solve`; and `Done` with the command's text. `WriteFault` comes where the sink failed before the end
-/// of the text, and `OutOfMemory` may come before its first byte.
+/// the input was not read to its end; `BadInput` where it is not what the command reads, the problem is above a limit of the
+/// command, or a search can't go on at its path; `Refused` only from `verify`; `Spent` only from `solve` and `resume`; and `Done`
+/// with the command's text. `WriteFault` comes where the sink failed before the end of the text, and `OutOfMemory` may come before
+/// its first byte.
 pub fn run<I: Source, O: Sink>(
     alloc: Global,
     words: &[String],
@@ -36,10 +40,12 @@ pub fn run<I: Source, O: Sink>(
 {
     commands_are_their_lines();
     sources_keep_their_rules();
+    spent_dossiers_keep_their_rules();
     table_tells_balance();
     verdict_tells_balance();
     orbit_systems_are_systems();
     runs_are_whole();
+    paths_have_reasons();
     designs_are_solutions();
     run_words(alloc, words, input, out)
 }
@@ -61,6 +67,7 @@ fn run_words<I: Source, O: Sink>(
     };
     match Task::from(command) {
         Task::Source(task) => answer_source(alloc, task, input, out),
+        Task::Stream(task) => answer_stream(alloc, task, input, out),
     }
 }
 
@@ -80,5 +87,21 @@ fn answer_source<I: Source, O: Sink>(
         Err(ReadError::ReadFault) => Status::ReadFault,
         Err(ReadError::TooLong) => Status::TooLong,
         Err(ReadError::OutOfMemory) => Status::OutOfMemory,
+    }
+}
+
+// Answers a task that reads lines one by one.
+fn answer_stream<I: Source, O: Sink>(
+    alloc: Global,
+    task: StreamTask,
+    input: &mut I,
+    out: &mut O,
+) -> Status
+    ensures answers { Answers (Task.Stream task) (incoming I.left I.faults input.old input.new) (outgoing O.written O.faults out.old out.new) result }
+    ensures reads { I.faults input.old ≤ I.faults input.new }
+    ensures writes { O.faults out.old ≤ O.faults out.new }
+{
+    match task {
+        StreamTask::Resume(options) => answer_resume(alloc, options, input, out),
     }
 }

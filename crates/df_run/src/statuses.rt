@@ -11,7 +11,7 @@ pub enum Status {
     Refused,
     /// The words are not a command. Nothing was read.
     Usage,
-    /// The input can't be read as the command wants it, or the problem that it states is above a limit.
+    /// The input can't be read as the command wants it, the problem that it states is above a limit, or its path isn't a node.
     BadInput,
     /// A read failed. Nothing was written.
     ReadFault,
@@ -19,7 +19,7 @@ pub enum Status {
     WriteFault,
     /// Out of memory. Nothing was written.
     OutOfMemory,
-    /// `solve`: a node remains that the budget doesn't pay.
+    /// `solve` and `resume`: a node remains that the budget doesn't pay.
     Spent,
     /// More bytes came than the limit on input allows. Nothing was written.
     TooLong,

@@ -12,6 +12,8 @@ pub const SOURCE_BYTES: u64 = 1_048_576;
 pub enum Task {
     /// It reads a source, of at most `SOURCE_BYTES`.
     Source(SourceTask),
+    /// It reads lines one by one, of at most `df_io::MOST_BYTES` together.
+    Stream(StreamTask),
 }
 
 /// What is asked of a source.
@@ -31,6 +33,13 @@ pub enum SourceTask {
     Solve(Options),
 }
 
+/// What is asked of lines that are read one by one.
+#[derive(Clone, Copy, Debug, PartialEq, Eq)]
+pub enum StreamTask {
+    /// The designs that the search of a dossier which ended spent has still to find.
+    Resume(Options),
+}
+
 impl From<Command> for Task {
     ghost from_gives = { λ command task. task ≡ task_of command };
 
@@ -42,6 +51,7 @@ impl From<Command> for Task {
             Command::Orbits => Task::Source(SourceTask::Orbits),
             Command::Matrix => Task::Source(SourceTask::Matrix),
             Command::Solve(options) => Task::Source(SourceTask::Solve(options)),
+            Command::Resume(options) => Task::Stream(StreamTask::Resume(options)),
         }
     }
 }

@@ -1,6 +1,6 @@
 -- Chains of runs.
 use Rattle.std.proofs.Common.{◌≡◌, ℕ, ◌-◌, Bool, List, [], ◌∷◌, ◌++◌, length, map, Option, Some, None, refl, sym, ap, ◌∙◌, subst, arith}
-use Rattle.std.specs.Prelude.{replicate, filter}
+use Rattle.std.specs.Prelude.{replicate}
 use Rattle.std.proofs.lemmas.List.{append_assoc, append-nil, map-append}
 use Rattle.std.proofs.lemmas.List.Elements.{filter_map-append}
 use Rattle.df_walk.specs.declared.Rules.{Rules}
@@ -9,10 +9,11 @@ use Rattle.df_walk.specs.Systems.{System, IsSystem}
 use Rattle.df_walk.specs.Assignments.{Decisions, total}
 use Rattle.df_walk.specs.Solutions.{solutions, chosen_columns}
 use Rattle.df_walk.specs.Walks.{Step, solution_of, solutions_in, nodes_in, entries_in, walk}
-use Rattle.df_walk.specs.Paths.{not_before, rest, IsNode}
+use Rattle.df_walk.specs.Paths.{IsNode}
 use Rattle.df_walk.specs.Remains.{padded, IsStart}
 use Rattle.df_walk.specs.Logs.{Proves, Completes}
 use Rattle.df_walk.proofs.NodeVisits.{start_of}
+use Rattle.df_walk.proofs.RestSolutions.{rest_all}
 use Rattle.df_walk.proofs.WalkLogs.{chosen_in}
 use Rattle.df_walk.proofs.LogForms.{Completes-from_AreLogs, AreLogs-from_Completes}
 use Rattle.df_runs.specs.Runs.{Run, run_of, then_run, walk_at, rest_at, EndsAt}
@@ -49,14 +50,6 @@ chain_solutions s (Some p) (leg ∷ legs) ok allowed =
     let B = steps_of (chain_from s run.stop legs) in
     let end = rest_at s (chain_stop s run.stop legs) in
     ap (λ l. l ++ end) (filter_map-append (solution_of s) run.taken B) ∙ append_assoc (solutions_in s run.taken) (solutions_in s B) end ∙ ap (λ l. solutions_in s run.taken ++ l) (chain_solutions s run.stop legs ok allowed.1) ∙ whole.solutions
-
--- the rest of the empty path is all
-rest_all : (s : System) → rest s [] ≡ solutions s
-rest_all s = keep (solutions s)
-  where
-    keep : (xs : List (List Bool)) → filter (not_before []) xs ≡ xs
-    keep [] = refl
-    keep (x ∷ xs) = ap (λ l. x ∷ l) (keep xs)
 
 -- one log
 pub one_log : (s : System) (ds : Decisions) (E : List Entry) (L : List (List ℕ)) → Completes s (ds ∷ []) E L → Proves s ds E L

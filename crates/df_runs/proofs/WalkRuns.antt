@@ -1,70 +1,27 @@
 -- Runs from a node: the steps taken, and what remains at the stop.
-use Rattle.std.proofs.Common.{◌≡◌, ℕ, suc, zero, ◌+◌, ◌-◌, ◌≤◌, Bool, true, false, List, [], ◌∷◌, ◌++◌, length, Option, Some, None, refl, sym, ap, ◌∙◌, subst, arith, length-append}
+use Rattle.std.proofs.Common.{◌≡◌, ℕ, ◌+◌, ◌-◌, ◌≤◌, Bool, true, false, List, [], ◌∷◌, ◌++◌, length, Option, Some, None, refl, sym, ap, ◌∙◌, subst, arith, length-append}
 use Rattle.std.specs.Prelude.{filter}
 use Rattle.std.specs.List.{AllByRecursion}
-use Rattle.std.proofs.lemmas.Bool.{or_parts}
-use Rattle.std.proofs.lemmas.List.{append_assoc, append-nil}
+use Rattle.std.proofs.lemmas.List.{append-nil}
 use Rattle.std.proofs.lemmas.List.Elements.{filter_map-append}
-use Rattle.df_lists.proofs.MemberLaws.{AllByRecursion-append}
+use Rattle.df_lists.proofs.MemberLaws.{all_front, all_back}
 use Rattle.df_walk.specs.declared.Rules.{Rules}
 use Rattle.df_walk.specs.declared.Entry.{Entry}
-use Rattle.df_walk.specs.declared.Entry.TheVariants.{Branch, Over, Under, Settled, Residue, Cut}
 use Rattle.df_walk.specs.Systems.{System, IsSystem}
-use Rattle.df_walk.specs.Assignments.{is_settled}
-use Rattle.df_walk.specs.Walks.{Step, decided, entry_at, below, walk_from, walk, solution_of, solutions_in, node_of, nodes_in}
-use Rattle.df_walk.specs.Paths.{settled_between, settled_before, is_node, not_before, rest, load, IsNode}
+use Rattle.df_walk.specs.Walks.{Step, walk, solution_of, solutions_in, node_of, nodes_in}
+use Rattle.df_walk.specs.Paths.{is_node, not_before, rest, load, IsNode}
 use Rattle.df_walk.specs.Remains.{walk_on, IsStart, remaining}
-use Rattle.df_walk.proofs.EntryMeanings.{Says, entry_says}
-use Rattle.df_walk.proofs.DeadPaths.{live_counts}
 use Rattle.df_walk.proofs.WalkOrder.{on_path, remains_is}
 use Rattle.df_walk.proofs.RestSolutions.{solutions_in-walk_on}
 use Rattle.df_walk.proofs.WalkNodes.{nodes_in-walk_on}
 use Rattle.df_walk.proofs.NodeVisits.{node_visited, start_of}
 use Rattle.df_runs.specs.Orders.{Ascend}
 use Rattle.df_runs.specs.Runs.{Run, run_over, run_of, then_run, IsRunFrom, counted_as, IsCounted, StopsFirst}
-use Rattle.df_runs.proofs.StepLists.{all_front, all_back, all_kept, all_pass, Ascend-filter, Ascend-cut}
+use Rattle.df_runs.proofs.StepLists.{all_kept, all_pass, Ascend-filter, Ascend-cut}
 use Rattle.df_runs.proofs.WalkOrders.{walk_from-all, walk_from-ascends}
 use Rattle.df_runs.proofs.CutNodes.{later_of}
-use Rattle.df_runs.proofs.BudgetRuns.{left_over, Ends, run_splits, run_joins, run_after, nodes_among_is, count_node}
-
-settled_more : (s : System) (before p : List Bool) (b : Bool) → settled_between s before p ≡ false → is_settled s (decided (before ++ p)) ≡ false → settled_between s before (p ++ b ∷ []) ≡ false
-settled_more s before [] b v h = let e = rw (append-nil before) at h in rw e
-settled_more s before (c ∷ p) b v h =
-    let parts = or_parts (is_settled s (decided before)) (settled_between s (before ++ c ∷ []) p) v in
-    let here = parts.0 in
-    let more = settled_more s (before ++ c ∷ []) p b parts.1 (rw (append_assoc before (c ∷ []) p) h) in
-    rw (here, more)
-
--- the walk's entry counts where its path is a node
-counted_here : (rules : Rules) (s : System) (p : List Bool) (e : Entry) → settled_between s [] p ≡ false → Says rules s p e → IsCounted (is_node rules s) (p, e)
-counted_here rules s p (Over r) v h = let l = live_counts rules s p (Over r) h in rw l
-counted_here rules s p (Under r) v h = let l = live_counts rules s p (Under r) h in rw l
-counted_here rules s p (Residue r m) v h = let l = live_counts rules s p (Residue r m) h in rw l
-counted_here rules s p (Cut ws) v h = absurd h
-counted_here rules s p Settled v h = let l = live_counts rules s p Settled h in let w : settled_before s p ≡ false = v in rw (l, w)
-counted_here rules s p (Branch c) v h = let l = live_counts rules s p (Branch c) h in let w : settled_before s p ≡ false = v in rw (l, w)
-
-walk_from-counted : (rules : Rules) (s : System) (left : ℕ) (p : List Bool) → settled_between s [] p ≡ false → AllByRecursion (IsCounted (is_node rules s)) (walk_from rules s left p)
-walk_from-counted rules s zero p v = (counted_here rules s p (entry_at rules s p) v (entry_says rules s p), tt)
-walk_from-counted rules s (suc left) p v =
-    (counted_here rules s p (entry_at rules s p) v (entry_says rules s p), go (entry_at rules s p) (entry_says rules s p) (λ h. walk_from-counted rules s left (p ++ true ∷ []) h) (λ h. walk_from-counted rules s left (p ++ false ∷ []) h))
-  where
-    A : List Step
-    A = walk_from rules s left (p ++ true ∷ [])
-
-    B : List Step
-    B = walk_from rules s left (p ++ false ∷ [])
-
-    go : (e : Entry) → Says rules s p e → (settled_between s [] (p ++ true ∷ []) ≡ false → AllByRecursion (IsCounted (is_node rules s)) A) → (settled_between s [] (p ++ false ∷ []) ≡ false → AllByRecursion (IsCounted (is_node rules s)) B) → AllByRecursion (IsCounted (is_node rules s)) (below e (A ++ B))
-    go (Over r) h a b = tt
-    go (Under r) h a b = tt
-    go (Residue r m) h a b = tt
-    go (Cut ws) h a b = tt
-    go Settled h a b = tt
-    go (Branch c) h a b = AllByRecursion-append _ A B (a (settled_more s [] p true v h.4)) (b (settled_more s [] p false v h.4))
-
-pub steps-counted : (rules : Rules) (s : System) (p : List Bool) → AllByRecursion (IsCounted (is_node rules s)) (remaining rules s p)
-steps-counted rules s p = all_kept _ (on_path (not_before p)) (walk rules s []) (walk_from-counted rules s (length s.columns - 0) [] refl)
+use Rattle.df_runs.proofs.BudgetRuns.{left_over, Ends, run_splits, run_joins, nodes_among_is}
+use Rattle.df_runs.proofs.CountedSteps.{count_node, run_after, walk_from-counted, steps-counted}
 
 steps-short : (rules : Rules) (s : System) (p : List Bool) → AllByRecursion (λ step. length step.0 ≤ length s.columns) (remaining rules s p)
 steps-short rules s p = all_kept _ (on_path (not_before p)) (walk rules s []) (walk_from-all rules s (length s.columns - 0) [] (λ q. length q ≤ length s.columns) (λ q n. omega arith))

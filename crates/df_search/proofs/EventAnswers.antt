@@ -1,5 +1,5 @@
 -- What an answer of `advance` says, by the answer.
-use Rattle.std.proofs.Common.{◌≡◌, ℕ, suc, zero, ◌+◌, ◌≤◌, Bool, List, [], ◌∷◌, length, Some, refl, sym, ap, ◌∙◌, subst, arith}
+use Rattle.std.proofs.Common.{◌≡◌, ℕ, suc, zero, ◌+◌, ◌≤◌, Bool, true, List, [], ◌∷◌, ◌++◌, length, Some, refl, sym, ap, ◌∙◌, subst, arith}
 use Rattle.std.specs.Prelude.{IsSome}
 use Rattle.df_walk.specs.declared.Rules.{Rules}
 use Rattle.df_walk.specs.declared.Entry.{Entry}
@@ -11,15 +11,15 @@ use Rattle.df_walk.proofs.WalkOrder.{remains_is}
 use Rattle.df_walk.proofs.RestSolutions.{solutions_in-walk_on}
 use Rattle.df_walk.proofs.WalkNodes.{nodes_in-walk_on}
 use Rattle.df_search.specs.declared.Event.{Event}
-use Rattle.df_search.specs.declared.Event.TheVariants.{Solution, Spent, Finished}
+use Rattle.df_search.specs.declared.Event.TheVariants.{Over, Solution, Spent, Finished}
 use Rattle.df_search.specs.declared.search.State.{State}
-use Rattle.df_search.specs.declared.search.State.TheVariants.{Here, Below, Past, Solved, Done}
+use Rattle.df_search.specs.declared.search.State.TheVariants.{Here, Below, Tried, Past, Solved, Done}
 use Rattle.df_search.specs.HeldPaths.{Held}
-use Rattle.df_search.specs.Searches.{Searching, StandsBefore, AdvancesBy, Advances, Gives, IsAnswer, place_of, search_of, answered, stopped}
+use Rattle.df_search.specs.Searches.{Searching, StandsBefore, PassesOver, AdvancesBy, Advances, Gives, IsAnswer, place_of, path_at, search_of, answered, stopped}
 use Rattle.df_search.proofs.PassedSteps.{passes_of, none_passed, finds_next, stops, ends}
 
 -- a search that may be asked for its place has the rest and the load of its path
-pub stands : (st : State) (rules : Rules) (held : Held) (p : List Bool) → IsSystem held.system → length held.path ≤ length held.system.columns → IsVisited rules held.system held.path → place_of st held.path ≡ Some p → StandsBefore (search_of st rules held) held.path
+pub stands : (st : State) (rules : Rules) (held : Held) (p : List Bool) → IsSystem held.system → length held.path ≤ length held.system.columns → IsVisited rules held.system held.path → place_of st held.path ≡ Some p → StandsBefore (search_of st rules held) (path_at st held.path)
 stands Here rules held p ok short seen h = record {
   place = refl;
   start = record { short = short; visited = seen };
@@ -29,6 +29,7 @@ stands Here rules held p ok short seen h = record {
   nodes = nodes_in-walk_on rules held.system held.path short seen;
 }
 stands Below rules held p ok short seen h = absurd (let e = h in cc)
+stands Tried rules held p ok short seen h = absurd (let e = h in cc)
 stands Past rules held p ok short seen h = absurd (let e = h in cc)
 stands Solved rules held p ok short seen h = absurd (let e = h in cc)
 stands Done rules held p ok short seen h = absurd (let e = h in cc)
@@ -36,6 +37,7 @@ stands Done rules held p ok short seen h = absurd (let e = h in cc)
 pub stands_asked : (st : State) (rules : Rules) (held : Held) → IsSystem held.system → length held.path ≤ length held.system.columns → IsVisited rules held.system held.path → IsSome (place_of st held.path) → StandsBefore (search_of st rules held) held.path
 stands_asked Here rules held ok short seen h = stands Here rules held held.path ok short seen refl
 stands_asked Below rules held ok short seen h = absurd (let e = h in cc)
+stands_asked Tried rules held ok short seen h = absurd (let e = h in cc)
 stands_asked Past rules held ok short seen h = absurd (let e = h in cc)
 stands_asked Solved rules held ok short seen h = absurd (let e = h in cc)
 stands_asked Done rules held ok short seen h = absurd (let e = h in cc)
@@ -80,3 +82,7 @@ answer_of q new b after e a at_place = go q.rest b refl a
         let h : Advances q 0 Spent new after = subst (λ l. AdvancesBy q l 0 Spent new after) (sym is) (refl, a.1, a.2) in
         stays q new after e p a.0 a.1 h at_place
     go ((p, entry.Branch c) ∷ more) (suc b) is a = rw a.0 (gives_answered p (entry.Branch c) more is a.1 (omega (arith, a.2)))
+
+-- a row that is over with the next yes was told
+pub over_answer : {q new : Searching} {row : ℕ} (b : ℕ) → PassesOver q new row → IsAnswer q b (Over row) new b
+over_answer {q} {new} {row} b passes = gives_answered (q.path ++ true ∷ []) (entry.Over row) new.rest passes.first passes.same (omega arith)

@@ -10,3 +10,4 @@ pub mod EventAnswers
 pub mod FollowedPaths
 pub mod LeapSteps
 pub mod PassedLeaps
+pub mod Reasons

@@ -17,7 +17,7 @@ use Rattle.df_search.specs.HeldPaths.{Held}
 use Rattle.df_search.specs.Leaps.{Leaps, leap_steps, is_leaf}
 use Rattle.df_search.specs.Searches.{Searching, Passes, PassesLeaf, place_of, search_of, stopped}
 use Rattle.df_search.proofs.LeapSteps.{leaps_over}
-use Rattle.df_search.proofs.SearchSteps.{asked_on, asked_again}
+use Rattle.df_search.proofs.SearchSteps.{asked_on, asked_again, asked_path}
 use Rattle.df_search.proofs.PassedSteps.{passes_of, passed_count, pass_one, Skips}
 
 -- n nodes were passed, each with its dead leaf
@@ -82,7 +82,7 @@ passes_leaf st rules held asked dead =
       first = asked_on st rules held.system held.path asked ∙ leaf_rest rules held.system held.path (entry_at rules held.system held.path) refl dead;
       system = refl;
       rules = refl;
-      path = refl;
+      path = sym (asked_path st held.path asked);
     }
 
 -- what was passed with it

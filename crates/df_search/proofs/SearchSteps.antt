@@ -1,5 +1,5 @@
 -- The entry that is answered where a search stands, and what is left then.
-use Rattle.std.proofs.Common.{◌≡◌, ℕ, suc, zero, ◌-◌, ◌≤◌, Bool, true, false, List, [], ◌∷◌, ◌++◌, length, Option, Some, None, refl, sym, ap, ◌∙◌, subst, arith, inl, inr}
+use Rattle.std.proofs.Common.{◌≡◌, ℕ, suc, zero, ◌-◌, ◌≤◌, Bool, true, false, List, [], ◌∷◌, ◌++◌, length, Option, Some, None, refl, sym, ap, ◌∙◌, subst, arith, inl, inr, length-append}
 use Rattle.std.specs.Prelude.{IsSome, replicate}
 use Rattle.std.proofs.lemmas.List.{append_assoc, append-nil}
 use Rattle.std.proofs.lemmas.Bool.{false≢true, true≢false}
@@ -11,19 +11,21 @@ use Rattle.df_walk.specs.Solutions.{yes_vector}
 use Rattle.df_walk.specs.Walks.{Step, decided, entry_at, is_branch}
 use Rattle.df_walk.specs.Remains.{walk_on, IsVisitedFrom, IsVisited, after_first, turned}
 use Rattle.df_walk.proofs.WalkSteps.{walk_on_from, walk_on_first, later_walk-turned, walk_on_over, walk_on_under, walk_on_residue, walk_on_settled, walk_on_branch, branch_leaves}
+use Rattle.df_walk.proofs.PaddedPaths.{turned_yes}
 use Rattle.df_search.specs.declared.Event.{Event}
 use Rattle.df_search.specs.declared.Event.TheVariants.{Branch, Over, Under, Residue, Solution, Spent}
 use Rattle.df_search.specs.declared.search.State.{State}
-use Rattle.df_search.specs.declared.search.State.TheVariants.{Here, Below, Past, Solved, Done}
+use Rattle.df_search.specs.declared.search.State.TheVariants.{Here, Below, Tried, Past, Solved, Done}
 use Rattle.df_search.specs.declared.held_path.Verdict.{Verdict}
 use Rattle.df_search.specs.declared.held_path.Verdict.TheVariants as verdict
 use Rattle.df_search.specs.HeldPaths.{Held, TurnsTo, as_entry}
-use Rattle.df_search.specs.Searches.{Searching, rest_of, chosen_of, search_of, next_path_of, Answers, AdvancesBy, Advances, stopped, ended, place_of, IsReady, IsFit, IsOnWalk}
+use Rattle.df_search.specs.Searches.{Searching, rest_of, chosen_of, search_of, next_path_of, Answers, AdvancesBy, Advances, PassesOver, stopped, ended, place_of, path_at, IsReady, IsFit, IsOnWalk}
 
 -- what is left goes on at the next path
 left_is : (st : State) (rules : Rules) (s : System) (p : List Bool) → rest_of st rules s p ≡ walk_on_from rules s [] (next_path_of st p)
 left_is Here rules s p = refl
 left_is Below rules s p = refl
+left_is Tried rules s p = later_walk-turned rules s [] (p ++ true ∷ []) ∙ ap (walk_on_from rules s []) (turned_yes p)
 left_is Past rules s p = later_walk-turned rules s [] p
 left_is Solved rules s p = later_walk-turned rules s [] p
 left_is Done rules s p = refl
@@ -52,6 +54,7 @@ visited_turned rules s before (b ∷ p) q h v = go b (turned p) h v (λ r is. vi
 next_visited : (st : State) (rules : Rules) (s : System) (p q : List Bool) → next_path_of st p ≡ Some q → IsVisited rules s p → IsFit st rules s p → IsVisited rules s q
 next_visited Here rules s p q h v f = let e : p ≡ q = cc in subst (λ l. IsVisited rules s l) e v
 next_visited Below rules s p q h v f = let e : p ++ true ∷ [] ≡ q = cc in subst (λ l. IsVisited rules s l) e (visited_more rules s [] p true v f)
+next_visited Tried rules s p q h v f = let e : p ++ false ∷ [] ≡ q = cc in subst (λ l. IsVisited rules s l) e (visited_more rules s [] p false v f)
 next_visited Past rules s p q h v f = visited_turned rules s [] p q h v
 next_visited Solved rules s p q h v f = visited_turned rules s [] p q h v
 next_visited Done rules s p q h v f = absurd (let e = h in cc)
@@ -86,6 +89,7 @@ is_branch_is (entry.Cut ws) h = absurd (false≢true h)
 -- a search that fits its path may go on
 pub ready : (st : State) (rules : Rules) (s : System) (p : List Bool) → IsFit st rules s p → IsReady st s p
 ready Below rules s p h = let b = is_branch_is (entry_at rules s p) h in (branch_leaves rules s p b.0 b.1).0
+ready Tried rules s p h = let b = is_branch_is (entry_at rules s p) h in (branch_leaves rules s p b.0 b.1).0
 ready Here rules s p h = tt
 ready Past rules s p h = tt
 ready Solved rules s p h = tt
@@ -135,14 +139,34 @@ same_end old held same none = rw (same, none) refl
 pub asked_on : (st : State) (rules : Rules) (s : System) (p : List Bool) → IsSome (place_of st p) → rest_of st rules s p ≡ walk_on rules s p
 asked_on Here rules s p h = refl
 asked_on Below rules s p h = absurd (let e = h in cc)
+asked_on Tried rules s p h = absurd (let e = h in cc)
 asked_on Past rules s p h = absurd (let e = h in cc)
 asked_on Solved rules s p h = absurd (let e = h in cc)
 asked_on Done rules s p h = absurd (let e = h in cc)
+
+-- its path is then the one that is held
+pub asked_path : (st : State) (p : List Bool) → IsSome (place_of st p) → path_at st p ≡ p
+asked_path Here p h = refl
+asked_path Below p h = refl
+asked_path Tried p h = absurd (let e = h in cc)
+asked_path Past p h = refl
+asked_path Solved p h = refl
+asked_path Done p h = refl
+
+-- which is never longer
+pub path_longer : (st : State) (p : List Bool) → length p ≤ length (path_at st p)
+path_longer Here p = omega arith
+path_longer Below p = omega arith
+path_longer Tried p = omega (arith, length-append p (true ∷ []))
+path_longer Past p = omega arith
+path_longer Solved p = omega arith
+path_longer Done p = omega arith
 
 -- it may be asked at another path too, and fits it
 pub asked_again : (st : State) (p q : List Bool) → IsSome (place_of st p) → IsSome (place_of st q)
 asked_again Here p q h = refl
 asked_again Below p q h = absurd (let e = h in cc)
+asked_again Tried p q h = absurd (let e = h in cc)
 asked_again Past p q h = absurd (let e = h in cc)
 asked_again Solved p q h = absurd (let e = h in cc)
 asked_again Done p q h = absurd (let e = h in cc)
@@ -150,9 +174,28 @@ asked_again Done p q h = absurd (let e = h in cc)
 pub asked_fit : (st : State) (rules : Rules) (s : System) (p q : List Bool) → IsSome (place_of st p) → IsFit st rules s q
 asked_fit Here rules s p q h = tt
 asked_fit Below rules s p q h = absurd (let e = h in cc)
+asked_fit Tried rules s p q h = absurd (let e = h in cc)
 asked_fit Past rules s p q h = absurd (let e = h in cc)
 asked_fit Solved rules s p q h = absurd (let e = h in cc)
 asked_fit Done rules s p q h = absurd (let e = h in cc)
+
+-- and its path is the one that is held
+pub answers_path : (v : Verdict) (column budget after : ℕ) (st : State) (event : Event) (p : List Bool) → Answers v column budget st event after → path_at st p ≡ p
+answers_path (verdict.Over r) column budget after st event p a = rw a.0 refl
+answers_path (verdict.Under r) column budget after st event p a = rw a.0 refl
+answers_path (verdict.Residue r m) column budget after st event p a = rw a.0 refl
+answers_path verdict.Settled column budget after st event p (inl a) = rw a.2 refl
+answers_path verdict.Settled column budget after st event p (inr a) = rw a.1 refl
+answers_path verdict.Branch column budget after st event p (inl a) = rw a.2 refl
+answers_path verdict.Branch column budget after st event p (inr a) = rw a.1 refl
+
+-- a row is over with the next yes, which is told without taking it
+pub tried : (rules : Rules) (held : Held) (row : ℕ) → entry_at rules held.system (held.path ++ true ∷ []) ≡ entry.Over row → PassesOver (search_of Below rules held) (search_of Tried rules held) row
+tried rules held row is = record { first = walk_on_over rules held.system (held.path ++ true ∷ []) row is; same = refl }
+
+pub over_advances : {q new : Searching} {row : ℕ} (budget : ℕ) → PassesOver q new row → Advances q budget (Over row) new budget
+over_advances {q} {new} {row} budget passes =
+    subst (λ l. AdvancesBy q l budget (Over row) new budget) (sym passes.first) (refl, passes.same, refl)
 
 -- the search goes on from there
 pub on_walk : (rules : Rules) (held : Held) (v : Verdict) (budget after : ℕ) (st : State) (event : Event) → IsVisited rules held.system held.path → as_entry v (length held.path) ≡ entry_at rules held.system held.path → Answers v (length held.path) budget st event after → IsOnWalk rules held st
@@ -177,6 +220,7 @@ yes_vector-decided (suc n) (b ∷ q) h = ap (λ x. b ∷ x) (yes_vector-decided 
 pub chosen_is : (st : State) (s : System) (p : List Bool) → IsSome (chosen_of st s p) → length p ≤ length s.columns → chosen_of st s p ≡ Some (p ++ replicate (length s.columns - length p) false)
 chosen_is Here s p h short = absurd (let e = h in cc)
 chosen_is Below s p h short = absurd (let e = h in cc)
+chosen_is Tried s p h short = absurd (let e = h in cc)
 chosen_is Past s p h short = absurd (let e = h in cc)
 chosen_is Solved s p h short = ap Some (yes_vector-decided (length s.columns) p short)
 chosen_is Done s p h short = absurd (let e = h in cc)

@@ -1,5 +1,5 @@
 -- A search: what remains of the walk, and where the search stands.
-use Rattle.std.specs.Prelude.{◌≡◌, ◌<◌, ℕ, zero, suc, ◌+◌, ◌-◌, ◌⊎◌, Bool, true, List, [], ◌∷◌, ◌++◌, length, Option, Some, None}
+use Rattle.std.specs.Prelude.{◌≡◌, ◌<◌, ℕ, zero, suc, ◌+◌, ◌-◌, ◌⊎◌, Bool, true, false, List, [], ◌∷◌, ◌++◌, length, Option, Some, None}
 use Rattle.df_walk.specs.declared.Rules.{Rules}
 use Rattle.df_walk.specs.declared.Entry.{Entry}
 use Rattle.df_walk.specs.declared.Entry.TheVariants as entry
@@ -13,7 +13,7 @@ use Rattle.df_search.specs.declared.Event.TheVariants.{Branch, Over, Under, Resi
 use Rattle.df_search.specs.declared.Turn.{Turn}
 use Rattle.df_search.specs.declared.Turn.TheVariants as turn
 use Rattle.df_search.specs.declared.search.State.{State}
-use Rattle.df_search.specs.declared.search.State.TheVariants.{Here, Below, Past, Solved, Done}
+use Rattle.df_search.specs.declared.search.State.TheVariants.{Here, Below, Tried, Past, Solved, Done}
 use Rattle.df_search.specs.declared.held_path.Verdict.{Verdict}
 use Rattle.df_search.specs.declared.held_path.Verdict.TheVariants as verdict
 use Rattle.df_search.specs.HeldPaths.{Held}
@@ -101,6 +101,11 @@ pub record PassesLeaf (q new : Searching) : Type 0 where
   pub rules : new.rules ≡ q.rules
   pub path : new.path ≡ q.path
 
+-- the first entry is passed, that of the path with yes for the next column: the row is over there
+pub record PassesOver (q new : Searching) (row : ℕ) : Type 0 where
+  pub first : q.rest ≡ (q.path ++ true ∷ [], entry.Over row) ∷ new.rest
+  pub same : new ≡ answered q (q.path ++ true ∷ []) new.rest
+
 -- up to the first settled entry, which is passed last: its path has the solution, for which the search may be asked
 pub record Finds (q : Searching) (budget : ℕ) (new : Searching) (after : ℕ) : Type 0 where
   pub solution : List Bool
@@ -175,10 +180,11 @@ own_calls turn.Finished = 1
 abbrev pub calls_of : Searching → Turn → Searching → ℕ
 calls_of q t new = length q.rest - length new.rest + own_calls t
 
--- where the next entry stands: at the path, below it, past it (a solution or not), or nowhere
+-- where the next entry stands: at the path, below it, past its yes, past it (a solution or not), or nowhere
 abbrev pub rest_of : State → Rules → System → List Bool → List Step
 rest_of Here rules s p = walk_on rules s p
 rest_of Below rules s p = walk_on rules s (p ++ true ∷ [])
+rest_of Tried rules s p = later_walk rules s [] (p ++ true ∷ [])
 rest_of Past rules s p = later_walk rules s [] p
 rest_of Solved rules s p = later_walk rules s [] p
 rest_of Done rules s p = []
@@ -186,6 +192,7 @@ rest_of Done rules s p = []
 abbrev pub place_of : State → List Bool → Option (List Bool)
 place_of Here p = Some p
 place_of Below p = None
+place_of Tried p = None
 place_of Past p = None
 place_of Solved p = None
 place_of Done p = None
@@ -193,6 +200,7 @@ place_of Done p = None
 abbrev pub chosen_of : State → System → List Bool → Option (List Bool)
 chosen_of Here s p = None
 chosen_of Below s p = None
+chosen_of Tried s p = None
 chosen_of Past s p = None
 chosen_of Solved s p = Some (yes_vector (length s.columns) (decided p))
 chosen_of Done s p = None
@@ -201,13 +209,23 @@ chosen_of Done s p = None
 abbrev pub next_path_of : State → List Bool → Option (List Bool)
 next_path_of Here p = Some p
 next_path_of Below p = Some (p ++ true ∷ [])
+next_path_of Tried p = Some (p ++ false ∷ [])
 next_path_of Past p = turned p
 next_path_of Solved p = turned p
 next_path_of Done p = None
 
+-- the path of the last entry: the one that is held, or that with yes for the next column, which isn't taken
+abbrev pub path_at : State → List Bool → List Bool
+path_at Here p = p
+path_at Below p = p
+path_at Tried p = p ++ true ∷ []
+path_at Past p = p
+path_at Solved p = p
+path_at Done p = p
+
 -- what contracts see of a search
 abbrev pub search_of : State → Rules → Held → Searching
-search_of state rules held = record { system = held.system; rules = rules; rest = rest_of state rules held.system held.path; path = held.path; place = place_of state held.path; chosen = chosen_of state held.system held.path }
+search_of state rules held = record { system = held.system; rules = rules; rest = rest_of state rules held.system held.path; path = path_at state held.path; place = place_of state held.path; chosen = chosen_of state held.system held.path }
 
 -- a node that the budget allows lowers it by 1, and is answered; else the search stays, spent
 abbrev pub Pays : ℕ → State → Event → State → Event → ℕ → Type 0
@@ -221,17 +239,19 @@ Answers (verdict.Residue r m) column budget state event after = (state ≡ Past)
 Answers verdict.Settled column budget state event after = Pays budget Solved Solution state event after
 Answers verdict.Branch column budget state event after = Pays budget Below (Branch column) state event after
 
--- a search goes on below a path that leaves a column, and at the end its path is empty
+-- a search goes on below a path that leaves a column, or past its yes, and at the end its path is empty
 abbrev pub IsReady : State → System → List Bool → Type 0
 IsReady Below s p = length p < length s.columns
+IsReady Tried s p = length p < length s.columns
 IsReady Here s p = Unit {0}
 IsReady Past s p = Unit {0}
 IsReady Solved s p = Unit {0}
 IsReady Done s p = p ≡ []
 
--- it goes on below a path that branches
+-- it goes on below a path that branches, or past its yes
 abbrev pub IsFit : State → Rules → System → List Bool → Type 0
 IsFit Below rules s p = is_branch (entry_at rules s p) ≡ true
+IsFit Tried rules s p = is_branch (entry_at rules s p) ≡ true
 IsFit Here rules s p = Unit {0}
 IsFit Past rules s p = Unit {0}
 IsFit Solved rules s p = Unit {0}

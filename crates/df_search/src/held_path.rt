@@ -6,6 +6,7 @@ ghost use Rattle.std.specs.Prelude.{◌≡◌, ℕ, ◌+◌, ◌-◌, ◌*◌, �
 ghost use Rattle.df_walk.specs.Systems.{IsSystem, widest};
 ghost use Rattle.df_walk.specs.Assignments.{is_settled};
 ghost use Rattle.df_walk.specs.Walks.{decided, entry_at, is_branch};
+ghost use Rattle.df_walk.specs.declared.Entry.TheVariants.{Over};
 ghost use Rattle.df_walk.specs.Remains.{turned};
 ghost use Rattle.df_search.specs.HeldPaths.{as_entry, TurnsTo};
 ghost use Rattle.df_search.specs.Leaps.{Leaps, is_leaf};
@@ -151,6 +152,16 @@ impl<'m> HeldPath<'m> {
             self.values[column as usize] = true;
             self.limit = self.rows.limit();
         }
+    }
+
+    /// The least row that is over with yes for the next column, if one is. The column isn't taken for that.
+    pub(crate) fn over_with_yes<L: Ledger>(&self, steps: &mut Steps<L>) -> Option<u32>
+        requires { is_branch (entry_at self.now.rules self.now.system self.now.path) ≡ true }
+        ensures over { IfSome result (λ row. entry_at self.now.rules self.now.system (self.now.path ++ true ∷ []) ≡ Over row) }
+        ensures rises { steps.old ≤ steps.new }
+        ensures cost { steps.new ≤ steps.old + widest self.now.system.columns }
+    {
+        self.rows.over_with(self.length, steps)
     }
 
     /// Goes back to the last yes and turns it to no. False, with the empty path, where there is no yes.

@@ -1,5 +1,6 @@
 // The walk through the tree of paths, with the place in it as one path and a state: at the path, below it or past it.
 // It goes back late, with the call that asks for the next entry: so the answer's path stays held, as its solution and its place, and a call costs at most three decisions more than its path grows shorter.
+// A yes that brings a row over its target is told without being taken, by the cells of its column: most of the entries of a log are such ones.
 // A call of `advance` passes one entry, and gives it. `next` passes entries up to a solution or up to a node that the budget doesn't allow: from a node that branches it leaps by no's over the nodes whose yes is over at once, each with that yes, and passes a path that is given up without a look for the row.
 ghost use Rattle.std.specs.Prelude.{◌≡◌, ℕ, ◌+◌, ◌-◌, ◌*◌, ◌<◌, ◌≤◌, [], ◌∷◌, ◌++◌, length, Some, None, IfOk, IfErr, IsSome, IsNone, IfSome, Bool, true, false, ◌==◌};
 ghost use Rattle.std.specs.List.{list_any};
@@ -11,7 +12,7 @@ ghost use Rattle.df_walk.specs.Paths.{path_of, settled_before};
 ghost use Rattle.df_walk.specs.Remains.{turned};
 ghost use Rattle.df_search.specs.HeldPaths.{TurnsTo};
 ghost use Rattle.df_search.specs.Resumptions.{Resumes, Refuses, IsFirstSettled, why_of};
-ghost use Rattle.df_search.specs.Searches.{begun, stopped, ended, StandsBefore, rest_solutions, Advances, IsAnswer, Passes, PassesLeaf, Turns, calls_of, next_path_of, IsReady, Answers};
+ghost use Rattle.df_search.specs.Searches.{begun, stopped, ended, StandsBefore, rest_solutions, Advances, IsAnswer, Passes, PassesLeaf, PassesOver, Turns, calls_of, next_path_of, IsReady, Answers};
 
 use crate::held_path::{HeldPath, Verdict};
 use crate::{Event, OutOfMemory, PathView, ResumeError, Turn, Why};
@@ -27,6 +28,8 @@ use std::sync::ledger::Ledger;
 enum State {
     Here,
     Below,
+    // past the path with yes for the next column, which is over: the column isn't taken for that
+    Tried,
     Past,
     // past a path that was answered as a solution
     Solved,
@@ -65,6 +68,10 @@ fn go_on<L: Ledger>(state: State, held: &mut HeldPath<'_>, steps: &mut Steps<L>)
         State::Here => true,
         State::Below => {
             held.extend(true, steps);
+            true
+        }
+        State::Tried => {
+            held.extend(false, steps);
             true
         }
         State::Past | State::Solved => held.turn(steps),
@@ -221,10 +228,29 @@ impl<'m> Search<'m> {
         ensures rises { steps.old ≤ steps.new }
         ensures cost { steps.new + widest self.old.system.columns * length self.new.path ≤ steps.old + widest self.old.system.columns * (length self.old.path + 3) }
     {
+        if let Some(row) = self.try_yes(steps) {
+            return Event::Over(row);
+        }
         if !self.come(steps) {
             return Event::Finished;
         }
         self.answer(budget)
+    }
+
+    /// Passes the entry of the path below that to which the search has come, if a row is over there, and tells the row. Else the search stays.
+    /// No column is taken for that: such an entry costs a look at the cells of its column.
+    fn try_yes<L: Ledger>(&mut self, steps: &mut Steps<L>) -> Option<u32>
+        ensures none { IsNone result → self.new ≡ self.old }
+        ensures some { IfSome result (PassesOver self.old self.new) }
+        ensures rises { steps.old ≤ steps.new }
+        ensures cost { steps.new ≤ steps.old + widest self.old.system.columns }
+    {
+        let State::Below = self.state else {
+            return None;
+        };
+        let row = self.held.over_with_yes(steps)?;
+        self.state = State::Tried;
+        Some(row)
     }
 
     /// Comes to the path of the first entry that remains. False, at the end, where none does.

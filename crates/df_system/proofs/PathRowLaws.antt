@@ -2,7 +2,7 @@
 use Rattle.std.proofs.Common.{◌≡◌, inl, inr, ℕ, suc, zero, ◌+◌, ◌*◌, ◌-◌, ◌%◌, ◌^◌, ◌<◌, ◌≤◌, Bool, true, false, not, List, [], ◌∷◌, length, get_or, set, take, drop, reverse, replicate, Some, None, is_some, refl, sym, ap, ◌∙◌, arith, length-set, ltb-false, ne_eqb}
 use Rattle.std.specs.Prelude.{find}
 use Rattle.std.specs.List.{list_all, range_with_len}
-use Rattle.std.proofs.lemmas.Bool.{cases_eq, cases_Bool, not-true, not-false}
+use Rattle.std.proofs.lemmas.Bool.{cases_eq, cases_lt, cases_Bool, not-true, not-false, lt-ltb, le-ltb}
 use Rattle.std.proofs.lemmas.List.{get_or-set_same, get_or-set_other, length-replicate}
 use Rattle.df_lists.proofs.RangeLaws.{none_in_range}
 use Rattle.df_walk.specs.declared.Cell.{Cell}
@@ -16,7 +16,7 @@ use Rattle.df_system.specs.PathRows.{Yeses, taken_in, is_over_in, is_met_in, has
 use Rattle.df_system.specs.Deadlines.{IsDeadline}
 use Rattle.df_system.specs.CountedRows.{row_at, is_over_row, is_unmet_row, IsFirstRow, TellsSome, RowsAlong, with_entry, without_entry, HaveSmallSums, HaveTaken, HaveTargets, HaveDeadlines, AreRows, IsSmallColumn, IsStack}
 use Rattle.df_system.proofs.DecisionTrails.{reverse_less, length-trail}
-use Rattle.df_system.proofs.SortedCells.{blank, entry_in_order}
+use Rattle.df_system.proofs.SortedCells.{blank, entry_in_order, rows_rise}
 use Rattle.df_system.proofs.RowNeeds.{residue_told, residue_untold}
 
 -- a yes column more
@@ -200,6 +200,61 @@ barred_nowhere {s} {rules} {chosen} {rows} column column_cells count are is sort
     let goal = are.targets row barred.1 in
     let has = are.taken row barred.1 in
     absurd (omega (arith, barred.3))
+
+-- what a row has taken with a yes column more
+taken_with : (s : System) (row column : ℕ) (chosen : List ℕ) → taken_in s row (column ∷ chosen) ≡ taken_in s row chosen + entry s row column
+taken_with s row column chosen = omega arith
+
+-- the cells before this one fit their rows
+abbrev pub FitBefore : List PathRow → List Cell → ℕ → Type 0
+FitBefore rows column_cells count = (k : ℕ) → k < count → (row_at rows (get_or column_cells k blank).row).taken + (get_or column_cells k blank).value ≤ (row_at rows (get_or column_cells k blank).row).target
+
+-- with the column a row isn't over that isn't now, where a cell of it fits or the column has none in it
+module _ {s : System} {rules : Rules} {chosen : List ℕ} {rows : List PathRow} (column : ℕ) (column_cells : List Cell) (are : AreRows s rules chosen rows) (is : column_cells ≡ cells s column) (sorted : AreCells (length s.targets) column_cells) (none : least_row s (is_over_in (record { system = s; rules = rules; chosen = chosen })) ≡ None) where
+  abbrev with_column : Yeses
+  with_column = record { system = s; rules = rules; chosen = column ∷ chosen }
+
+  entry_at_cell : (k : ℕ) → k < length column_cells → entry s (get_or column_cells k blank).row column ≡ (get_or column_cells k blank).value
+  entry_at_cell k more = entry_is s (get_or column_cells k blank).row column ∙ ap (λ l. entry_of l (get_or column_cells k blank).row) (sym is) ∙ entry_in_order column_cells (get_or column_cells k blank).row k sorted.increasing more refl
+
+  fits_with : (row count : ℕ) → FitBefore rows column_cells count → ((k : ℕ) → k < length column_cells → (get_or column_cells k blank).row ≡ row → k < count) → row < length s.targets → is_over_in with_column row ≡ false
+  fits_with row count fit early within =
+      let goal = are.targets row within in
+      let has = are.taken row within in
+      let sum = taken_with s row column chosen in
+      let now = ltb-false (target s row) (taken_in s row chosen) (none_in_range (is_over_in (record { system = s; rules = rules; chosen = chosen })) 0 (length s.targets) row none (omega arith) (omega arith)) in
+      elim (cases_lt 0 (entry s row column)) [
+        | inl positive ↦
+            let e : entry s row column ≡ entry_of column_cells row = entry_is s row column ∙ ap (λ l. entry_of l row) (sym is) in
+            let found = has_cell column_cells row (omega arith) in
+            let value = entry_at_cell found.0 found.1 in
+            let here = rw found.2 at (fit found.0 (early found.0 found.1 found.2)) in
+            let v : entry s row column ≡ (get_or column_cells found.0 blank).value = rw found.2 at value in
+            le-ltb (target s row) (taken_in s row (column ∷ chosen)) (omega arith)
+        | inr zero_entry ↦ le-ltb (target s row) (taken_in s row (column ∷ chosen)) (omega arith)
+      ]
+
+  -- the first cell that doesn't fit has the least row that is over with the column
+  pub over_with_cell : (k : ℕ) → k < length column_cells → FitBefore rows column_cells k → (row_at rows (get_or column_cells k blank).row).target < (row_at rows (get_or column_cells k blank).row).taken + (get_or column_cells k blank).value → least_row s (is_over_in with_column) ≡ Some (get_or column_cells k blank).row
+  over_with_cell k more fit above =
+      let cell = get_or column_cells k blank in
+      let within = sorted.in_range k blank more in
+      let e = entry_at_cell k more in
+      let goal = are.targets cell.row within in
+      let has = are.taken cell.row within in
+      let sum = taken_with s cell.row column chosen in
+      least_row_is s (is_over_in with_column) cell.row within (lt-ltb (target s cell.row) (taken_in s cell.row (column ∷ chosen)) (omega arith))
+      (λ row below. fits_with row k fit (λ j l here. elim (cases_lt j k) [
+        | inl before ↦ before
+        | inr after ↦ elim (cases_eq j k) [
+          | inl same ↦ absurd (let r : cell.row ≡ row = rw same at here in omega arith)
+          | inr other ↦ absurd (omega (arith, here, rows_rise column_cells k j sorted.increasing (omega arith) l))
+        ]
+      ]) (omega arith))
+
+  -- and where each fits, no row is over with it
+  pub none_over_with : (count : ℕ) → length column_cells ≤ count → FitBefore rows column_cells count → least_row s (is_over_in with_column) ≡ None
+  none_over_with count all fit = least_row_none s (is_over_in with_column) (length s.targets) (omega arith) (λ row within. fits_with row count fit (λ k l here. omega arith) within)
 
 -- where no row is found, none passes
 pub none_passes : (s : System) (p : ℕ → Bool) (r : ℕ) → least_row s p ≡ None → r < length s.targets → p r ≡ false

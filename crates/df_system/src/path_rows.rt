@@ -401,6 +401,25 @@ impl<'m> PathRows<'m> {
         true
     }
 
+    /// The least row that a column would bring above its target, where no row is above its target: `None` exactly where the column fits.
+    /// It counts each cell that it reads.
+    pub fn over_with<L: Ledger>(&self, column: u32, steps: &mut Steps<L>) -> Option<u32>
+        requires column { column < length self.now.system.columns }
+        requires none_over { least_row self.now.system (is_over_in self.now) ≡ None }
+        ensures row { result ≡ least_row self.now.system (is_over_in (record self.now { chosen = column ∷ self.now.chosen })) }
+        ensures rises { steps.old ≤ steps.new }
+        ensures cost { steps.new ≤ steps.old + length (cells self.now.system column) }
+    {
+        for cell in self.system.column(column) {
+            steps.tick();
+            let row = self.rows.get(cell.row as usize);
+            if (row.target as u64) < row.taken + cell.value as u64 {
+                return Some(cell.row);
+            }
+        }
+        None
+    }
+
     /// How many columns from this one on are closed, of those that share its word in `BarredColumns`: each has a positive entry in a row that needs nothing.
     /// Where more columns are taken than levels are kept there, it is 0, which says nothing. It counts no step.
     pub fn run(&self, column: u32) -> u32

@@ -4,9 +4,7 @@ use Rattle.std.specs.Result.{IsErr}
 use Rattle.std.specs.List.{flat_map, AllByRecursion}
 use Rattle.std.proofs.lemmas.Grind.{flat_map-append}
 use Rattle.std.proofs.lemmas.List.Elements.{filter_map-append}
-use Rattle.df_io.specs.Writing.{Writes}
 use Rattle.df_io.specs.declared.bytes.WriteFault.{WriteFault}
-use Rattle.df_io.proofs.Writing.{writes_nothing, writes_as, writes_then, writes_stopped}
 use Rattle.df_walk.specs.declared.Entry.{Entry}
 use Rattle.df_walk.specs.declared.Entry.TheVariants.{Branch, Over, Under, Settled, Residue, Cut}
 use Rattle.df_walk.specs.Systems.{System}
@@ -14,9 +12,8 @@ use Rattle.df_walk.specs.Solutions.{yes_vector}
 use Rattle.df_walk.specs.Walks.{Step, decided, solution_of, solutions_in, node_of, nodes_in}
 use Rattle.df_walk.specs.Paths.{is_node}
 use Rattle.df_runs.specs.Runs.{run_over, run_of, then_run, IsCounted}
-use Rattle.df_runs.proofs.StepLists.{all_front}
-use Rattle.df_runs.proofs.BudgetRuns.{run_after}
-use Rattle.df_runs.proofs.WalkRuns.{steps-counted}
+use Rattle.df_lists.proofs.MemberLaws.{all_front}
+use Rattle.df_runs.proofs.CountedSteps.{run_after, steps-counted}
 use Rattle.df_search.specs.Searches.{Searching, StandsBefore, Passes, Gives, Finds}
 use Rattle.df_lang.specs.Problems.{Stated}
 use Rattle.df_kramer_mesner.specs.OrbitSystems.{orbit_system}
@@ -28,6 +25,8 @@ use Rattle.df_tell.specs.declared.run.Counts.{Counts}
 use Rattle.df_tell.specs.declared.run.RunEnd.{RunEnd}
 use Rattle.df_tell.specs.Run.{step_lines, design_lines, solution_lines, as_written}
 use Rattle.df_tell.specs.RunSteps.{IsOf, AreCounted, run_left, Tells, stop_at, IsOver, IsRan}
+use Rattle.df_tell.specs.Gathered.{Gathers}
+use Rattle.df_tell.proofs.GatheredTexts.{gathers_nothing, gathers_as, gathers_then, gathers_stopped}
 use Rattle.df_tell.proofs.SilentRuns.{silent_lines}
 
 -- each solution stands at a node
@@ -57,11 +56,11 @@ pub stands_run : (q : Searching) (p : List Bool) (n : ℕ) → StandsBefore q p 
 stands_run q p n stands = ap (run_over (is_node q.rules q.system) n) stands.entries
 
 -- an answer is what it equals
-pub tells_as : {K : Type 0} {w : K → Option (List ℕ)} {f : K → ℕ} {shown : Shown} {s : Stated} {q new : Remaining} {c d : Counts} {a b : K} {t r : Result (Unit {0}) WriteFault} → t ≡ r → Tells w f shown s q new c d a b r → Tells w f shown s q new c d a b t
-tells_as {w = w} {f = f} {shown = shown} {s = s} {q = q} {new = new} {c = c} {d = d} {a = a} {b = b} is tells = subst (λ t. Tells w f shown s q new c d a b t) (sym is) tells
+pub tells_as : {K : Type 0} {w : K → Option (List ℕ)} {f : K → ℕ} {shown : Shown} {s : Stated} {q new : Remaining} {c d : Counts} {a b : K} {g h : List ℕ} {t r : Result (Unit {0}) WriteFault} → t ≡ r → Tells w f shown s q new c d a b g h r → Tells w f shown s q new c d a b g h t
+tells_as {w = w} {f = f} {shown = shown} {s = s} {q = q} {new = new} {c = c} {d = d} {a = a} {b = b} {g = g} {h = h} is tells = subst (λ t. Tells w f shown s q new c d a b g h t) (sym is) tells
 
 -- nothing was passed yet
-pub tells_nothing : {K : Type 0} {w : K → Option (List ℕ)} {f : K → ℕ} {shown : Shown} {s : Stated} {q : Remaining} {c : Counts} {a : K} → Tells w f shown s q q c c a a (Ok tt)
+pub tells_nothing : {K : Type 0} {w : K → Option (List ℕ)} {f : K → ℕ} {shown : Shown} {s : Stated} {q : Remaining} {c : Counts} {a : K} {g : List ℕ} → Tells w f shown s q q c c a a g g (Ok tt)
 tells_nothing = record {
   steps = [];
   joined = refl;
@@ -71,12 +70,12 @@ tells_nothing = record {
   problem = refl;
   system = refl;
   rules = refl;
-  writes = writes_nothing;
+  gathers = gathers_nothing;
 }
 
 -- steps, and then steps
-pub tells_then : {K : Type 0} {w : K → Option (List ℕ)} {f : K → ℕ} {shown : Shown} {s : Stated} {q0 q1 q2 : Remaining} {c0 c1 c2 : Counts} {a0 a1 a2 : K} {r : Result (Unit {0}) WriteFault}
-    → Tells w f shown s q0 q1 c0 c1 a0 a1 (Ok tt) → Tells w f shown s q1 q2 c1 c2 a1 a2 r → Tells w f shown s q0 q2 c0 c2 a0 a2 r
+pub tells_then : {K : Type 0} {w : K → Option (List ℕ)} {f : K → ℕ} {shown : Shown} {s : Stated} {q0 q1 q2 : Remaining} {c0 c1 c2 : Counts} {a0 a1 a2 : K} {g0 g1 g2 : List ℕ} {r : Result (Unit {0}) WriteFault}
+    → Tells w f shown s q0 q1 c0 c1 a0 a1 g0 g1 (Ok tt) → Tells w f shown s q1 q2 c1 c2 a1 a2 g1 g2 r → Tells w f shown s q0 q2 c0 c2 a0 a2 g0 g2 r
 tells_then {shown = shown} {s = s} first second =
     let y = orbit_system s in
     record {
@@ -88,14 +87,14 @@ tells_then {shown = shown} {s = s} first second =
       problem = second.problem ∙ first.problem;
       system = second.system ∙ first.system;
       rules = second.rules ∙ first.rules;
-      writes = writes_as (sym (flat_map-append (step_lines shown s) first.steps second.steps)) (writes_then first.writes second.writes);
+      gathers = gathers_as (sym (flat_map-append (step_lines shown s) first.steps second.steps)) (gathers_then first.gathers second.gathers);
     }
 
 -- the first entry was passed
-pub gives_tells : {K : Type 0} {w : K → Option (List ℕ)} {f : K → ℕ} {shown : Shown} {s : Stated} {q new : Remaining} {c d : Counts} {a b : K} {r : Result (Unit {0}) WriteFault} (e : Entry)
+pub gives_tells : {K : Type 0} {w : K → Option (List ℕ)} {f : K → ℕ} {shown : Shown} {s : Stated} {q new : Remaining} {c d : Counts} {a b : K} {g h : List ℕ} {r : Result (Unit {0}) WriteFault} (e : Entry)
     → new.problem ≡ q.problem → Gives q.search c.left e new.search d.left
     → d.designs ≡ c.designs + length (solutions_in (orbit_system s) ((new.search.path, e) ∷ []))
-    → Writes w f a b (step_lines shown s (new.search.path, e)) r → Tells w f shown s q new c d a b r
+    → Gathers w f a b g h (step_lines shown s (new.search.path, e)) r → Tells w f shown s q new c d a b g h r
 gives_tells {shown = shown} {s = s} {new = new} e problem gives counted written = record {
   steps = (new.search.path, e) ∷ [];
   joined = gives.first;
@@ -105,7 +104,7 @@ gives_tells {shown = shown} {s = s} {new = new} e problem gives counted written 
   problem = problem;
   system = gives.passes.system;
   rules = gives.passes.rules;
-  writes = writes_as (sym (append-nil (step_lines shown s (new.search.path, e)))) written;
+  gathers = gathers_as (sym (append-nil (step_lines shown s (new.search.path, e)))) written;
 }
 
 -- what is printed of an entry in a log, without a solution and with one
@@ -120,9 +119,9 @@ pub chosen_is : (s : Stated) (q new : Remaining) (n left : ℕ) → IsOf s q →
 chosen_is s q new n left is finds = finds.chosen ∙ ap Some (finds.solution_is ∙ ap (λ y. yes_vector (length y.columns) (decided new.search.path)) is.system)
 
 -- all up to a design was passed without a log
-pub finds_tells : {K : Type 0} {w : K → Option (List ℕ)} {f : K → ℕ} {shown : Shown} {s : Stated} {q new : Remaining} {c d : Counts} {a b : K} {r : Result (Unit {0}) WriteFault}
+pub finds_tells : {K : Type 0} {w : K → Option (List ℕ)} {f : K → ℕ} {shown : Shown} {s : Stated} {q new : Remaining} {c d : Counts} {a b : K} {g h : List ℕ} {r : Result (Unit {0}) WriteFault}
     → IsOf s q → new.problem ≡ q.problem → shown.log ≡ false → Finds q.search c.left new.search d.left → d.designs ≡ c.designs + 1
-    → Writes w f a b (solution_lines shown s new.search.chosen) r → Tells w f shown s q new c d a b r
+    → Gathers w f a b g h (solution_lines shown s new.search.chosen) r → Tells w f shown s q new c d a b g h r
 finds_tells {shown = shown} {s = s} {new = new} is problem silent finds counted written =
     let passed = finds.passes.passed in
     let found : solutions_in (orbit_system s) passed ≡ finds.solution ∷ [] = ap (λ y. solutions_in y passed) (sym is.system) ∙ finds.passes.solutions in
@@ -135,7 +134,7 @@ finds_tells {shown = shown} {s = s} {new = new} is problem silent finds counted 
       problem = problem;
       system = finds.passes.system;
       rules = finds.passes.rules;
-      writes = writes_as (ap (solution_lines shown s) finds.chosen ∙ sym (append-nil (design_lines shown s (design s finds.solution))) ∙ ap (λ l. flat_map (design_lines shown s) (map (design s) l)) (sym found) ∙ sym (silent_lines shown s passed silent)) written;
+      gathers = gathers_as (ap (solution_lines shown s) finds.chosen ∙ sym (append-nil (design_lines shown s (design s finds.solution))) ∙ ap (λ l. flat_map (design_lines shown s) (map (design s) l)) (sym found) ∙ sym (silent_lines shown s passed silent)) written;
     }
 
 -- a design costs a node
@@ -143,8 +142,8 @@ pub finds_pays : (q new : Searching) (n left : ℕ) → Finds q n new left → l
 finds_pays q new n left finds = omega (arith, finds.passes.nodes, ap length finds.passes.solutions, sols_few q.system finds.passes.passed)
 
 -- entries without a solution were passed without a log
-pub passes_tells : {K : Type 0} {w : K → Option (List ℕ)} {f : K → ℕ} {shown : Shown} {s : Stated} {q new : Remaining} {c d : Counts} {a : K}
-    → IsOf s q → new.problem ≡ q.problem → shown.log ≡ false → Passes q.search c.left new.search d.left [] → d.designs ≡ c.designs → Tells w f shown s q new c d a a (Ok tt)
+pub passes_tells : {K : Type 0} {w : K → Option (List ℕ)} {f : K → ℕ} {shown : Shown} {s : Stated} {q new : Remaining} {c d : Counts} {a : K} {g : List ℕ}
+    → IsOf s q → new.problem ≡ q.problem → shown.log ≡ false → Passes q.search c.left new.search d.left [] → d.designs ≡ c.designs → Tells w f shown s q new c d a a g g (Ok tt)
 passes_tells {shown = shown} {s = s} is problem silent passes counted =
     let found : solutions_in (orbit_system s) passes.passed ≡ [] = ap (λ y. solutions_in y passes.passed) (sym is.system) ∙ passes.solutions in
     record {
@@ -156,12 +155,12 @@ passes_tells {shown = shown} {s = s} is problem silent passes counted =
       problem = problem;
       system = passes.system;
       rules = passes.rules;
-      writes = writes_as (ap (λ l. flat_map (design_lines shown s) (map (design s) l)) (sym found) ∙ sym (silent_lines shown s passes.passed silent)) writes_nothing;
+      gathers = gathers_as (ap (λ l. flat_map (design_lines shown s) (map (design s) l)) (sym found) ∙ sym (silent_lines shown s passes.passed silent)) gathers_nothing;
     }
 
 -- no entry was passed
-pub stays_tells : {K : Type 0} {w : K → Option (List ℕ)} {f : K → ℕ} {shown : Shown} {s : Stated} {q new : Remaining} {c d : Counts} {a : K}
-    → new.problem ≡ q.problem → new.search.rest ≡ q.search.rest → Passes q.search c.left new.search d.left [] → d.designs ≡ c.designs → Tells w f shown s q new c d a a (Ok tt)
+pub stays_tells : {K : Type 0} {w : K → Option (List ℕ)} {f : K → ℕ} {shown : Shown} {s : Stated} {q new : Remaining} {c d : Counts} {a : K} {g : List ℕ}
+    → new.problem ≡ q.problem → new.search.rest ≡ q.search.rest → Passes q.search c.left new.search d.left [] → d.designs ≡ c.designs → Tells w f shown s q new c d a a g g (Ok tt)
 stays_tells problem same passes counted = record {
   steps = [];
   joined = sym same;
@@ -171,35 +170,35 @@ stays_tells problem same passes counted = record {
   problem = problem;
   system = passes.system;
   rules = passes.rules;
-  writes = writes_nothing;
+  gathers = gathers_nothing;
 }
 
 -- the run of which steps were passed: these, and those of the run left
-pub tells_run : {K : Type 0} {w : K → Option (List ℕ)} {f : K → ℕ} {shown : Shown} {s : Stated} {q new : Remaining} {c d : Counts} {a b : K} {r : Result (Unit {0}) WriteFault}
-    → AreCounted q.search → (tells : Tells w f shown s q new c d a b r) → run_left q.search c.left ≡ then_run (record { taken = tells.steps; stop = None }) (run_left new.search d.left)
+pub tells_run : {K : Type 0} {w : K → Option (List ℕ)} {f : K → ℕ} {shown : Shown} {s : Stated} {q new : Remaining} {c d : Counts} {a b : K} {g h : List ℕ} {r : Result (Unit {0}) WriteFault}
+    → AreCounted q.search → (tells : Tells w f shown s q new c d a b g h r) → run_left q.search c.left ≡ then_run (record { taken = tells.steps; stop = None }) (run_left new.search d.left)
 tells_run {q = q} {new = new} {c = c} {d = d} counted tells = run_passed q.search new.search tells.steps c.left d.left counted tells.joined tells.nodes tells.system tells.rules
 
--- the text of the steps of a run, of which a text was written before the sink failed
-pub stopped_text : {K : Type 0} {w : K → Option (List ℕ)} {f : K → ℕ} {shown : Shown} {s : Stated} {q new : Remaining} {c d : Counts} {a b : K} {e : WriteFault} {r : Result (Unit {0}) WriteFault}
-    → AreCounted q.search → Tells w f shown s q new c d a b (Err e) → IsErr r → Writes w f a b (flat_map (step_lines shown s) (run_left q.search c.left).taken) r
+-- the text of the steps of a run, of which a text was stopped
+pub stopped_text : {K : Type 0} {w : K → Option (List ℕ)} {f : K → ℕ} {shown : Shown} {s : Stated} {q new : Remaining} {c d : Counts} {a b : K} {g h i : List ℕ} {e : WriteFault} {r : Result (Unit {0}) WriteFault}
+    → AreCounted q.search → Tells w f shown s q new c d a b g h (Err e) → IsErr r → Gathers w f a b g i (flat_map (step_lines shown s) (run_left q.search c.left).taken) r
 stopped_text {shown = shown} {s = s} {new = new} {d = d} counted tells err =
     let more = (run_left new.search d.left).taken in
-    writes_as (sym (flat_map-append (step_lines shown s) tells.steps more) ∙ ap (λ run. flat_map (step_lines shown s) run.taken) (sym (tells_run counted tells)))
-    (writes_stopped (flat_map (step_lines shown s) more) tells.writes err)
+    gathers_as (sym (flat_map-append (step_lines shown s) tells.steps more) ∙ ap (λ run. flat_map (step_lines shown s) run.taken) (sym (tells_run counted tells)))
+    (gathers_stopped (flat_map (step_lines shown s) more) tells.gathers err)
 
 -- where the run left is over, the run is the steps that were passed
-pub over_run : {K : Type 0} {w : K → Option (List ℕ)} {f : K → ℕ} {shown : Shown} {s : Stated} {q new : Remaining} {c d : Counts} {a b : K} {r : Result (Unit {0}) WriteFault} {end : RunEnd}
-    → AreCounted q.search → (tells : Tells w f shown s q new c d a b r) → IsOver new.search d.left end → run_left q.search c.left ≡ record { taken = tells.steps; stop = stop_at end new.search }
+pub over_run : {K : Type 0} {w : K → Option (List ℕ)} {f : K → ℕ} {shown : Shown} {s : Stated} {q new : Remaining} {c d : Counts} {a b : K} {g h : List ℕ} {r : Result (Unit {0}) WriteFault} {end : RunEnd}
+    → AreCounted q.search → (tells : Tells w f shown s q new c d a b g h r) → IsOver new.search d.left end → run_left q.search c.left ≡ record { taken = tells.steps; stop = stop_at end new.search }
 over_run {new = new} {end = end} counted tells over =
     tells_run counted tells ∙ ap (then_run (record { taken = tells.steps; stop = None })) over.run
     ∙ ap (λ l. record { taken = l; stop = stop_at end new.search }) (append-nil tells.steps)
 
-pub over_text : {K : Type 0} {w : K → Option (List ℕ)} {f : K → ℕ} {shown : Shown} {s : Stated} {q new : Remaining} {c d : Counts} {a b : K} {r : Result (Unit {0}) WriteFault} {end : RunEnd}
-    → AreCounted q.search → Tells w f shown s q new c d a b r → IsOver new.search d.left end → Writes w f a b (flat_map (step_lines shown s) (run_left q.search c.left).taken) r
-over_text {shown = shown} {s = s} counted tells over = writes_as (ap (λ run. flat_map (step_lines shown s) run.taken) (sym (over_run counted tells over))) tells.writes
+pub over_text : {K : Type 0} {w : K → Option (List ℕ)} {f : K → ℕ} {shown : Shown} {s : Stated} {q new : Remaining} {c d : Counts} {a b : K} {g h : List ℕ} {r : Result (Unit {0}) WriteFault} {end : RunEnd}
+    → AreCounted q.search → Tells w f shown s q new c d a b g h r → IsOver new.search d.left end → Gathers w f a b g h (flat_map (step_lines shown s) (run_left q.search c.left).taken) r
+over_text {shown = shown} {s = s} counted tells over = gathers_as (ap (λ run. flat_map (step_lines shown s) run.taken) (sym (over_run counted tells over))) tells.gathers
 
-pub over_ran : {K : Type 0} {w : K → Option (List ℕ)} {f : K → ℕ} {shown : Shown} {s : Stated} {q new : Remaining} {c d : Counts} {a b : K} {r : Result (Unit {0}) WriteFault} {end : RunEnd} (nodes : ℕ)
-    → AreCounted q.search → Tells w f shown s q new c d a b r → IsOver new.search d.left end → c.designs ≡ 0 → nodes + d.left ≡ c.left
+pub over_ran : {K : Type 0} {w : K → Option (List ℕ)} {f : K → ℕ} {shown : Shown} {s : Stated} {q new : Remaining} {c d : Counts} {a b : K} {g h : List ℕ} {r : Result (Unit {0}) WriteFault} {end : RunEnd} (nodes : ℕ)
+    → AreCounted q.search → Tells w f shown s q new c d a b g h r → IsOver new.search d.left end → c.designs ≡ 0 → nodes + d.left ≡ c.left
     → IsRan s (run_left q.search c.left) new.search (record { end = end; designs = d.designs; nodes = nodes })
 over_ran {s = s} {new = new} {d = d} {end = end} nodes counted tells over zero visited =
     let run = sym (over_run counted tells over) in

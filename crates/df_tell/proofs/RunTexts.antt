@@ -13,7 +13,7 @@ use Rattle.df_kramer_mesner.proofs.OrbitBlocks.{block_sized}
 use Rattle.df_families.specs.Families.{picked}
 use Rattle.df_correspondence.specs.Designs.{design, base}
 use Rattle.df_design.specs.RemainingDesigns.{Remaining, last_design}
-use Rattle.df_dossier.specs.Designs.{block_piece}
+use Rattle.df_dossier.specs.Designs.{block_piece, block_pieces}
 use Rattle.df_dossier.specs.Paths.{end_tokens}
 use Rattle.df_io.specs.Joined.{spaced}
 use Rattle.df_io.proofs.NumbersBack.{decimal_short}
@@ -22,7 +22,7 @@ use Rattle.df_search.specs.Searches.{Searching}
 use Rattle.df_tell.specs.declared.run.Shown.{Shown}
 use Rattle.df_tell.specs.declared.run.RunEnd.{RunEnd}
 use Rattle.df_tell.specs.declared.run.RunEnd.TheVariants.{Spent}
-use Rattle.df_tell.specs.Run.{path_end, block_pieces, design_line, block_comment, comment_lines, solution_lines, end_text}
+use Rattle.df_tell.specs.Run.{path_end, design_line, block_comment, comment_lines, solution_lines, end_text}
 use Rattle.df_tell.specs.RunSteps.{columns_text, column_text, stop_at}
 
 -- a path: its length, its yes columns, and the end of the line

@@ -1,12 +1,16 @@
 pub mod Canonical
 pub mod Cells
 pub mod Counts
+pub mod Dossier
+pub mod Gathered
 pub mod Limits
 pub mod Matrix
 pub mod Orbits
+pub mod Path
 pub mod Refusal
 pub mod Run
 pub mod RunSteps
+pub mod RunBack
 pub mod Table
 pub mod Usage
 pub mod Verdict

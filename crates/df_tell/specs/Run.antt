@@ -1,5 +1,5 @@
 -- The text of a run, a dossier: head, source lines, where it began, what it passed, how it ended.
-use Rattle.std.specs.Prelude.{◌≡◌, ℕ, ◌+◌, Bool, true, false, List, [], ◌∷◌, ◌++◌, codes, length, if◌then◌else◌, Option, Some, None, Result, Ok, Err, IsSome}
+use Rattle.std.specs.Prelude.{◌≡◌, ℕ, Bool, true, false, List, [], ◌∷◌, ◌++◌, codes, length, if◌then◌else◌, Option, Some, None, Result, Ok, Err, IsSome}
 use Rattle.std.specs.List.{flat_map}
 use Rattle.df_io.specs.Joined.{spaced}
 use Rattle.df_io.specs.declared.bytes.WriteFault.{WriteFault}
@@ -14,7 +14,7 @@ use Rattle.df_lang.specs.Canonical.{canonical, block_text}
 use Rattle.df_kramer_mesner.specs.OrbitSystems.{orbit_system}
 use Rattle.df_correspondence.specs.Designs.{design, base}
 use Rattle.df_design.specs.RemainingDesigns.{Remaining}
-use Rattle.df_dossier.specs.Designs.{block_piece}
+use Rattle.df_dossier.specs.Designs.{design_text}
 use Rattle.df_dossier.specs.Entries.{entry_text}
 use Rattle.df_dossier.specs.Paths.{path_text, end_tokens}
 use Rattle.df_tell.specs.Counts.{count_line}
@@ -40,15 +40,9 @@ path_end p = path_text (written_path p) ++ 10 ∷ []
 abbrev pub from_text : List Bool → List ℕ
 from_text p = codes "from" ++ path_end p
 
--- the blocks of a design line from a place on
-abbrev pub block_pieces : List ℕ → ℕ → List (List ℕ) → List ℕ
-block_pieces fs place [] = []
-block_pieces fs place (block ∷ blocks) =
-    block_piece fs block place ++ block_pieces fs (place + 1) blocks
-
 -- the line of a design: its base blocks
 unfoldable pub design_line : Stated → List (List ℕ) → List ℕ
-design_line s blocks = codes "design" ++ (block_pieces s.group 0 blocks ++ 10 ∷ [])
+design_line s blocks = design_text s.group blocks ++ 10 ∷ []
 
 -- the comment line of a block
 unfoldable pub block_comment : Stated → List ℕ → List ℕ

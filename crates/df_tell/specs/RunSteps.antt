@@ -1,7 +1,6 @@
 -- What a writer of a run has passed of it, and what is left.
 use Rattle.std.specs.Prelude.{◌≡◌, ℕ, ◌+◌, ◌<◌, ◌≤◌, Bool, List, [], ◌∷◌, ◌++◌, length, map, decimal, if◌then◌else◌, Option, Some, None, Result, IsSome}
 use Rattle.std.specs.List.{AllByRecursion, flat_map}
-use Rattle.df_io.specs.Writing.{Writes}
 use Rattle.df_io.specs.declared.bytes.WriteFault.{WriteFault}
 use Rattle.df_walk.specs.Walks.{Step, solutions_in, nodes_in}
 use Rattle.df_walk.specs.Paths.{is_node}
@@ -16,6 +15,7 @@ use Rattle.df_tell.specs.declared.run.Counts.{Counts}
 use Rattle.df_tell.specs.declared.run.Ran.{Ran}
 use Rattle.df_tell.specs.declared.run.RunEnd.{RunEnd}
 use Rattle.df_tell.specs.declared.run.RunEnd.TheVariants.{Finished, Spent}
+use Rattle.df_tell.specs.Gathered.{Gathers}
 use Rattle.df_tell.specs.Run.{step_lines}
 
 -- the yes columns of a path, which stand after its length
@@ -39,8 +39,8 @@ AreCounted q = AllByRecursion (IsCounted (is_node q.rules q.system)) q.rest
 abbrev pub run_left : Searching → ℕ → Run
 run_left q n = run_over (is_node q.rules q.system) n q.rest
 
--- steps were passed and paid, their designs were counted, and what is printed of them was written
-pub record Tells {K : Type 0} (written : K → Option (List ℕ)) (faults : K → ℕ) (shown : Shown) (s : Stated) (old new : Remaining) (counts counts_new : Counts) (out out_new : K) (result : Result (Unit {0}) WriteFault) : Type 0 where
+-- steps were passed and paid, their designs were counted, and what is printed of them was gathered
+pub record Tells {K : Type 0} (written : K → Option (List ℕ)) (faults : K → ℕ) (shown : Shown) (s : Stated) (old new : Remaining) (counts counts_new : Counts) (out out_new : K) (gathered gathered_new : List ℕ) (result : Result (Unit {0}) WriteFault) : Type 0 where
   pub steps : List Step
   pub joined : old.search.rest ≡ steps ++ new.search.rest
   pub nodes : counts.left ≡ length (nodes_in steps) + counts_new.left
@@ -49,7 +49,7 @@ pub record Tells {K : Type 0} (written : K → Option (List ℕ)) (faults : K �
   pub problem : new.problem ≡ old.problem
   pub system : new.search.system ≡ old.search.system
   pub rules : new.search.rules ≡ old.search.rules
-  pub writes : Writes written faults out out_new (flat_map (step_lines shown s) steps) result
+  pub gathers : Gathers written faults out out_new gathered gathered_new (flat_map (step_lines shown s) steps) result
 
 -- the path where a run goes on that ended so
 abbrev pub stop_at : RunEnd → Searching → Option (List Bool)

@@ -7,11 +7,17 @@
 
 mod canonical;
 mod counts;
+mod dossier;
+mod gathered;
+mod laws;
 mod limits;
 mod matrix;
 mod orbits;
+mod path;
 mod refusal;
 mod run;
+#[cfg(test)]
+mod run_fill_tests;
 #[cfg(test)]
 mod run_tests;
 mod table;
@@ -19,9 +25,12 @@ mod usage;
 mod verdict;
 
 pub use canonical::write_canonical;
+pub use dossier::write_dossier_refusal;
+pub use laws::spent_texts_are_read_back;
 pub use limits::{Limit, write_limit};
 pub use matrix::write_matrix;
 pub use orbits::write_orbits;
+pub use path::{PathRefusal, write_path_refusal};
 pub use refusal::write_refusal;
 pub use run::{RunEnd, Shown, write_run};
 pub use table::write_table;

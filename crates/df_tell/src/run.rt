@@ -10,21 +10,24 @@ ghost use Rattle.df_lists.specs.Membership.{In};
 ghost use Rattle.df_io.specs.Joined.{spaced};
 ghost use Rattle.df_io.specs.Writing.{Writes};
 ghost use Rattle.df_walk.specs.Solutions.{chosen_columns};
-ghost use Rattle.df_walk.specs.declared.Entry.TheVariants.{Settled};
+ghost use Rattle.df_walk.specs.declared.Entry.TheVariants.{Branch, Over, Under, Residue, Settled};
 ghost use Rattle.df_runs.specs.Runs.{run_of};
 ghost use Rattle.df_kramer_mesner.specs.OrbitSystems.{orbit_system};
-ghost use Rattle.df_dossier.specs.Designs.{block_piece};
+ghost use Rattle.df_dossier.specs.Designs.{block_piece, block_pieces};
 ghost use Rattle.df_dossier.specs.Entries.{entry_text};
 ghost use Rattle.df_dossier.specs.Paths.{end_tokens};
+ghost use Rattle.df_tell.specs.Gathered.{Gathers};
 ghost use Rattle.df_tell.specs.declared.run.RunEnd.TheVariants.{Spent};
-ghost use Rattle.df_tell.specs.Run.{head_text, source_text, from_text, path_end, block_pieces, design_line, block_comment, solution_lines, step_lines, end_text, run_text, run_end, as_written, MayRun};
+ghost use Rattle.df_tell.specs.Run.{head_text, source_text, from_text, path_end, design_line, block_comment, solution_lines, step_lines, end_text, run_text, run_end, as_written, MayRun};
 ghost use Rattle.df_tell.specs.RunSteps.{columns_text, column_text, IsOf, AreCounted, run_left, Tells, stop_at, EndsOrGoesOn, IsRan};
 
 use crate::canonical::write_canonical;
 use crate::counts::fill_count;
+use crate::gathered::{make_room, write_gathered};
 use df_design::{Blocks, Designs, Event, PathView, Reps, Rules, Turn};
 use df_dossier::{
-    Entry, put_design_block, put_design_start, put_end, put_entry, put_path_column, put_path_start,
+    block_piece_is_short, path_piece_is_short, put_branch, put_design_block, put_design_start,
+    put_end, put_over, put_path_column, put_path_start, put_residue, put_settled, put_under,
 };
 use df_io::{LineBuf, Sink, WriteFault, put_text, write_all};
 use df_lang::{Problem, block_text_is_short, line_count, problems_keep_their_rules, put_block};
@@ -222,12 +225,37 @@ fn write_steps<K: Sink, L: Ledger>(
     ensures ran { IfOk result
         (IsRan problem.now (run_left designs.old.search budget) designs.new.search) }
 {
+    line.clear();
+    let ran = gather_steps(problem, designs, budget, shown, line, out, steps)?;
+    write_gathered(line, out)?;
+    Ok(ran)
+}
+
+// The same, but that the last lines may still be gathered.
+fn gather_steps<K: Sink, L: Ledger>(
+    problem: &Problem,
+    designs: &mut Designs<'_>,
+    budget: u64,
+    shown: Shown,
+    gathered: &mut LineBuf,
+    out: &mut K,
+    steps: &mut Steps<L>,
+) -> Result<Ran, WriteFault>
+    requires search { IsOf problem.now designs.old }
+    requires counted { AreCounted designs.old.search }
+    ensures gathers { Gathers K.written K.faults out.old out.new
+        gathered.old.items gathered.new.items
+        (flat_map (step_lines shown problem.now) (run_left designs.old.search budget).taken)
+        (as_written result) }
+    ensures ran { IfOk result
+        (IsRan problem.now (run_left designs.old.search budget) designs.new.search) }
+{
     let mut counts = Counts {
         designs: 0,
         left: budget,
     };
     loop {
-        let end = write_step(problem, designs, &mut counts, shown, line, out, steps)?;
+        let end = gather_step(problem, designs, &mut counts, shown, gathered, out, steps)?;
         if let Some(end) = end {
             return Ok(Ran {
                 end,
@@ -238,40 +266,40 @@ fn write_steps<K: Sink, L: Ledger>(
     }
 }
 
-// Passes the next step, or without a log all steps up to the next design, and writes what is
+// Passes the next step, or without a log all steps up to the next design, and gathers what is
 // printed of them; or says how the run ended, where the budget allows no step more of which
 // anything is printed.
-fn write_step<K: Sink, L: Ledger>(
+fn gather_step<K: Sink, L: Ledger>(
     problem: &Problem,
     designs: &mut Designs<'_>,
     counts: &mut Counts,
     shown: Shown,
-    line: &mut LineBuf,
+    gathered: &mut LineBuf,
     out: &mut K,
     steps: &mut Steps<L>,
 ) -> Result<Option<RunEnd>, WriteFault>
     requires search { IsOf problem.now designs.old }
     requires few { counts.old.designs + counts.old.left < 2 ^ 64 }
     ensures tells { Tells K.written K.faults shown problem.now designs.old designs.new
-        counts.old counts.new out.old out.new (as_written result) }
+        counts.old counts.new out.old out.new gathered.old.items gathered.new.items
+        (as_written result) }
     ensures ends { IfOk result
         (EndsOrGoesOn designs.old.search designs.new.search counts.new.left) }
 {
     if shown.log {
-        write_entry_step(problem, designs, counts, shown, line, out, steps)
+        gather_entry_step(problem, designs, counts, shown, gathered, out, steps)
     } else {
-        write_design_step(problem, designs, counts, shown, line, out, steps)
+        gather_design_step(problem, designs, counts, shown, gathered, out, steps)
     }
 }
 
 // The same with a log: one entry, with its design.
-#[tactic(auto, using(df_io::proofs::NumbersBack::decimal_short))]
-fn write_entry_step<K: Sink, L: Ledger>(
+fn gather_entry_step<K: Sink, L: Ledger>(
     problem: &Problem,
     designs: &mut Designs<'_>,
     counts: &mut Counts,
     shown: Shown,
-    line: &mut LineBuf,
+    gathered: &mut LineBuf,
     out: &mut K,
     steps: &mut Steps<L>,
 ) -> Result<Option<RunEnd>, WriteFault>
@@ -279,22 +307,19 @@ fn write_entry_step<K: Sink, L: Ledger>(
     requires few { counts.old.designs + counts.old.left < 2 ^ 64 }
     requires log { shown.log ≡ true }
     ensures tells { Tells K.written K.faults shown problem.now designs.old designs.new
-        counts.old counts.new out.old out.new (as_written result) }
+        counts.old counts.new out.old out.new gathered.old.items gathered.new.items
+        (as_written result) }
     ensures ends { IfOk result
         (EndsOrGoesOn designs.old.search designs.new.search counts.new.left) }
 {
     match designs.advance(&mut counts.left, steps) {
-        Event::Branch(column) => goes_on(write_entry(Entry::Branch(column), line, out)),
-        Event::Over(row) => goes_on(write_entry(Entry::Over(row), line, out)),
-        Event::Under(row) => goes_on(write_entry(Entry::Under(row), line, out)),
-        Event::Residue(row, divisor) => goes_on(write_entry(
-            Entry::Residue { row, divisor },
-            line,
-            out,
-        )),
+        Event::Branch(column) => goes_on(gather_branch(column, gathered, out)),
+        Event::Over(row) => goes_on(gather_over(row, gathered, out)),
+        Event::Under(row) => goes_on(gather_under(row, gathered, out)),
+        Event::Residue(row, divisor) => goes_on(gather_residue(row, divisor, gathered, out)),
         Event::Solution => {
             counts.designs += 1;
-            goes_on(write_settled(problem, designs, shown, line, out))
+            goes_on(gather_settled(problem, designs, shown, gathered, out))
         }
         Event::Spent => Ok(Some(RunEnd::Spent)),
         Event::Finished => Ok(Some(RunEnd::Finished)),
@@ -302,12 +327,12 @@ fn write_entry_step<K: Sink, L: Ledger>(
 }
 
 // The same without a log: all steps up to the next design.
-fn write_design_step<K: Sink, L: Ledger>(
+fn gather_design_step<K: Sink, L: Ledger>(
     problem: &Problem,
     designs: &mut Designs<'_>,
     counts: &mut Counts,
     shown: Shown,
-    line: &mut LineBuf,
+    gathered: &mut LineBuf,
     out: &mut K,
     steps: &mut Steps<L>,
 ) -> Result<Option<RunEnd>, WriteFault>
@@ -315,14 +340,15 @@ fn write_design_step<K: Sink, L: Ledger>(
     requires few { counts.old.designs + counts.old.left < 2 ^ 64 }
     requires silent { shown.log ≡ false }
     ensures tells { Tells K.written K.faults shown problem.now designs.old designs.new
-        counts.old counts.new out.old out.new (as_written result) }
+        counts.old counts.new out.old out.new gathered.old.items gathered.new.items
+        (as_written result) }
     ensures ends { IfOk result
         (EndsOrGoesOn designs.old.search designs.new.search counts.new.left) }
 {
     match designs.next(&mut counts.left, steps) {
         Turn::Design => {
             counts.designs += 1;
-            goes_on(write_design(problem, designs, shown, line, out))
+            goes_on(gather_design(problem, designs, shown, gathered, out))
         }
         Turn::Spent => Ok(Some(RunEnd::Spent)),
         Turn::Finished => Ok(Some(RunEnd::Finished)),
@@ -340,143 +366,198 @@ fn goes_on(written: Result<(), WriteFault>) -> Result<Option<RunEnd>, WriteFault
     }
 }
 
-// Writes the line of an entry.
-fn write_entry<K: Sink>(entry: Entry, line: &mut LineBuf, out: &mut K) -> Result<(), WriteFault>
-    requires { length (entry_text entry) < 1024 }
-    ensures { Writes K.written K.faults out.old out.new (entry_text entry ++ 10 ∷ []) result }
+// Gathers the line of a branch.
+fn gather_branch<K: Sink>(
+    column: u32,
+    gathered: &mut LineBuf,
+    out: &mut K,
+) -> Result<(), WriteFault>
+    ensures { Gathers K.written K.faults out.old out.new gathered.old.items gathered.new.items
+        (entry_text (Branch column) ++ 10 ∷ []) result }
 {
-    line.clear();
-    put_entry(line, entry);
-    line.push(b'\n');
-    write_all(out, line.as_slice())
+    path_piece_is_short(column);
+    make_room(gathered, out)?;
+    put_branch(gathered, column);
+    gathered.push(b'\n');
+    Ok(())
 }
 
-// Writes the line of a settled entry, and the design that was found.
-fn write_settled<K: Sink>(
+// Gathers the line of a row that is over.
+fn gather_over<K: Sink>(row: u32, gathered: &mut LineBuf, out: &mut K) -> Result<(), WriteFault>
+    ensures { Gathers K.written K.faults out.old out.new gathered.old.items gathered.new.items
+        (entry_text (Over row) ++ 10 ∷ []) result }
+{
+    path_piece_is_short(row);
+    make_room(gathered, out)?;
+    put_over(gathered, row);
+    gathered.push(b'\n');
+    Ok(())
+}
+
+// Gathers the line of a row that is under.
+fn gather_under<K: Sink>(row: u32, gathered: &mut LineBuf, out: &mut K) -> Result<(), WriteFault>
+    ensures { Gathers K.written K.faults out.old out.new gathered.old.items gathered.new.items
+        (entry_text (Under row) ++ 10 ∷ []) result }
+{
+    path_piece_is_short(row);
+    make_room(gathered, out)?;
+    put_under(gathered, row);
+    gathered.push(b'\n');
+    Ok(())
+}
+
+// Gathers the line of a residue.
+fn gather_residue<K: Sink>(
+    row: u32,
+    divisor: u32,
+    gathered: &mut LineBuf,
+    out: &mut K,
+) -> Result<(), WriteFault>
+    ensures { Gathers K.written K.faults out.old out.new gathered.old.items gathered.new.items
+        (entry_text (Residue row divisor) ++ 10 ∷ []) result }
+{
+    path_piece_is_short(row);
+    path_piece_is_short(divisor);
+    make_room(gathered, out)?;
+    put_residue(gathered, row, divisor);
+    gathered.push(b'\n');
+    Ok(())
+}
+
+// Gathers the line of a settled entry, and the design that was found.
+fn gather_settled<K: Sink>(
     problem: &Problem,
     designs: &Designs<'_>,
     shown: Shown,
-    line: &mut LineBuf,
+    gathered: &mut LineBuf,
     out: &mut K,
 ) -> Result<(), WriteFault>
     requires problem { designs.now.problem ≡ problem.now }
     requires chosen { IsSome designs.now.search.chosen }
-    ensures { Writes K.written K.faults out.old out.new
+    ensures { Gathers K.written K.faults out.old out.new gathered.old.items gathered.new.items
         ((entry_text Settled ++ 10 ∷ [])
         ++ solution_lines shown problem.now designs.now.search.chosen) result }
 {
-    write_entry(Entry::Settled, line, out)?;
-    write_design(problem, designs, shown, line, out)
+    make_room(gathered, out)?;
+    put_settled(gathered);
+    gathered.push(b'\n');
+    gather_design(problem, designs, shown, gathered, out)
 }
 
-// Writes the design that was found: its base blocks, and where they are shown its blocks.
-fn write_design<K: Sink>(
+// Gathers the design that was found: its base blocks, and where they are shown its blocks.
+fn gather_design<K: Sink>(
     problem: &Problem,
     designs: &Designs<'_>,
     shown: Shown,
-    line: &mut LineBuf,
+    gathered: &mut LineBuf,
     out: &mut K,
 ) -> Result<(), WriteFault>
     requires problem { designs.now.problem ≡ problem.now }
     requires chosen { IsSome designs.now.search.chosen }
-    ensures { Writes K.written K.faults out.old out.new
+    ensures { Gathers K.written K.faults out.old out.new gathered.old.items gathered.new.items
         (solution_lines shown problem.now designs.now.search.chosen) result }
 {
     subsets_are_all();
     candidates_are_all();
     problems_keep_their_rules(problem);
-    write_base(problem, designs.reps(), line, out)?;
+    gather_base(problem, designs.reps(), gathered, out)?;
     if shown.blocks {
-        write_comments(problem, designs.blocks(), line, out)
+        gather_comments(problem, designs.blocks(), gathered, out)
     } else {
         Ok(())
     }
 }
 
-// Writes the line of a design in pieces, since it may have many base blocks.
-fn write_base<K: Sink>(
+// Gathers the line of a design in pieces, since it may have many base blocks.
+fn gather_base<K: Sink>(
     problem: &Problem,
     blocks: Reps<'_>,
-    line: &mut LineBuf,
+    gathered: &mut LineBuf,
     out: &mut K,
 ) -> Result<(), WriteFault>
-    ensures { Writes K.written K.faults out.old out.new
+    ensures { Gathers K.written K.faults out.old out.new gathered.old.items gathered.new.items
         (design_line problem.now blocks.entry) result }
 {
-    fill_design_start(line);
-    write_all(out, line.as_slice())?;
-    write_pieces(problem, blocks, line, out)?;
-    write_all(out, b"\n")
+    make_room(gathered, out)?;
+    put_design_start(gathered);
+    gather_pieces(problem, blocks, gathered, out)?;
+    make_room(gathered, out)?;
+    gathered.push(b'\n');
+    Ok(())
 }
 
-// Fills the buffer with the beginning of the line of a design.
-fn fill_design_start(line: &mut LineBuf)
-    ensures { line.new.items ≡ codes "design" }
-{
-    line.clear();
-    put_design_start(line);
-}
-
-// Writes the base blocks of the line of a design, the first one at place 0.
-fn write_pieces<K: Sink>(
+// Gathers the base blocks of the line of a design, the first one at place 0.
+fn gather_pieces<K: Sink>(
     problem: &Problem,
     blocks: Reps<'_>,
-    line: &mut LineBuf,
+    gathered: &mut LineBuf,
     out: &mut K,
 ) -> Result<(), WriteFault>
-    ensures { Writes K.written K.faults out.old out.new
+    ensures { Gathers K.written K.faults out.old out.new gathered.old.items gathered.new.items
         (block_pieces problem.now.group 0 blocks.entry) result }
 {
     let mut rest = blocks;
     let mut place = 0;
     while let Some(block) = rest.next() {
-        fill_piece(line, problem, &block, place);
-        write_all(out, line.as_slice())?;
+        gather_piece(problem, &block, place, gathered, out)?;
         place = 1;
     }
     Ok(())
 }
 
-// Fills the buffer with a block of at most 16 points at a place of the line of a design.
-fn fill_piece(line: &mut LineBuf, problem: &Problem, block: &Block, place: u64)
+// Gathers a block of at most 16 points at a place of the line of a design.
+fn gather_piece<K: Sink>(
+    problem: &Problem,
+    block: &Block,
+    place: u64,
+    gathered: &mut LineBuf,
+    out: &mut K,
+) -> Result<(), WriteFault>
     requires { length block.now ≤ 16 }
-    ensures { line.new.items ≡ block_piece problem.now.group block.now place }
+    ensures { Gathers K.written K.faults out.old out.new gathered.old.items gathered.new.items
+        (block_piece problem.now.group block.now place) result }
 {
-    block_text_is_short(problem, block);
-    line.clear();
-    put_design_block(line, problem, block, place);
+    block_piece_is_short(problem, block, place);
+    make_room(gathered, out)?;
+    put_design_block(gathered, problem, block, place);
+    Ok(())
 }
 
-// Writes the comment lines of blocks of at most 16 points.
-fn write_comments<K: Sink>(
+// Gathers the comment lines of blocks of at most 16 points.
+fn gather_comments<K: Sink>(
     problem: &Problem,
     blocks: Blocks<'_>,
-    line: &mut LineBuf,
+    gathered: &mut LineBuf,
     out: &mut K,
 ) -> Result<(), WriteFault>
     requires { (block : List ℕ) → In blocks block → length block ≤ 16 }
-    ensures { Writes K.written K.faults out.old out.new
+    ensures { Gathers K.written K.faults out.old out.new gathered.old.items gathered.new.items
         (flat_map (block_comment problem.now) blocks.entry) result }
 {
     let mut rest = blocks;
     while let Some(block) = rest.next() {
-        fill_comment(line, problem, &block);
-        write_all(out, line.as_slice())?;
+        gather_comment(problem, &block, gathered, out)?;
     }
     Ok(())
 }
 
-// Fills the buffer with the comment line of a block of at most 16 points.
-#[tactic(auto, unfolding(crate::specs::Run::block_comment))]
-fn fill_comment(line: &mut LineBuf, problem: &Problem, block: &Block)
+// Gathers the comment line of a block of at most 16 points.
+fn gather_comment<K: Sink>(
+    problem: &Problem,
+    block: &Block,
+    gathered: &mut LineBuf,
+    out: &mut K,
+) -> Result<(), WriteFault>
     requires { length block.now ≤ 16 }
-    ensures { line.new.items ≡ block_comment problem.now block.now }
+    ensures { Gathers K.written K.faults out.old out.new gathered.old.items gathered.new.items
+        (block_comment problem.now block.now) result }
 {
     block_text_is_short(problem, block);
-    line.clear();
-    put_text(line, b"# block ");
-    put_block(line, problem, block);
-    line.push(b'\n');
+    make_room(gathered, out)?;
+    put_text(gathered, b"# block ");
+    put_block(gathered, problem, block);
+    gathered.push(b'\n');
+    Ok(())
 }
 
 // Writes the end line. Of a spent run it ends with the path where the search stands.

@@ -4,6 +4,7 @@ ghost use Rattle.std.specs.Prelude.{◌≡◌, ◌<◌};
 use crate::{RunEnd, Shown, write_run};
 use arrayvec::ArrayVec;
 use df_design::{Designs, Rules};
+use df_dossier::read_spent;
 use df_io::MemSink;
 use df_lang::parse;
 use df_matrix::{OrbitMatrix, build};
@@ -169,4 +170,38 @@ design 0 1 5
 end finished designs 2 nodes 4
 ";
     assert_run(&rt, rt.alloc(), 4, BLOCKS, RunEnd::Finished, lines);
+}
+
+// The text of a run that was spent is read as the problem, the rules, and the path of this length with these yes columns.
+fn assert_read(
+    rt: &impl Abort,
+    alloc: Global,
+    budget: u64,
+    shown: Shown,
+    length: u32,
+    chosen: &[u32],
+) {
+    let (text, _) = plane_text(rt, alloc, budget, shown).expect(rt, "a text");
+    assert!(rt; text.len() <= 2000);
+    match read_spent(alloc, &text) {
+        Ok(spent) => {
+            assert_eq!(rt; spent.problem.lambda, 1);
+            assert_eq!(rt; spent.problem.sizes.as_slice(), [3].as_slice());
+            assert_eq!(rt; spent.rules, Rules::Divisor);
+            assert_eq!(rt; spent.path.length(), length);
+            assert_eq!(rt; spent.path.chosen(), chosen);
+        }
+        Err(_) => assert!(rt; false),
+    }
+}
+
+#[test]
+fn the_text_of_a_spent_run_is_read_back(rt: HostRuntime) {
+    let alloc = rt.alloc();
+    for shown in [LOG, SILENT, BLOCKS] {
+        assert_read(&rt, alloc, 0, shown, 0, &[]);
+        assert_read(&rt, alloc, 1, shown, 1, &[0]);
+        assert_read(&rt, alloc, 2, shown, 1, &[]);
+        assert_read(&rt, alloc, 3, shown, 2, &[1]);
+    }
 }

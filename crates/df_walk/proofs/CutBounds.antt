@@ -1,6 +1,6 @@
 -- A cut leaves no solution.
 use Rattle.std.proofs.Common.{◌≡◌, ℕ, suc, zero, ◌<◌, Bool, true, false, List, [], ◌∷◌, length, map, Some, None, refl, sym, ◌∙◌, arith, inl, inr}
-use Rattle.std.specs.Prelude.{ℤ, pos, negsuc, ◌+ℤ◌, ◌-ℤ◌, ◌*ℤ◌, ◌≤ℤ◌, ◌<ℤ◌, int_lt}
+use Rattle.std.specs.Prelude.{ℤ, pos, negsuc, ◌+ℤ◌, ◌-ℤ◌, ◌*ℤ◌, ◌≤ℤ◌, int_lt}
 use Rattle.std.specs.Int.{int_min, int_max}
 use Rattle.std.specs.List.{AllByRecursion}
 use Rattle.std.proofs.Math.IntN.{zero-*ℤ, *ℤ-zero, suc_ℤ-*ℤ, pred_ℤ-*ℤ}
@@ -13,6 +13,7 @@ use Rattle.df_walk.specs.Solutions.{keeps, product, solutions_with}
 use Rattle.df_walk.specs.Cuts.{weighted_need, weight_of, negatives, positives, least_weight, greatest_weight}
 use Rattle.df_walk.specs.Logs.{CutPasses}
 use Rattle.df_walk.proofs.NoSolutions.{KeepsAndSolves, none_solves}
+use Rattle.df_walk.proofs.SignedNumbers.{below_from_test}
 
 *ℤ-+ℤ_pos : (n : ℕ) (a b : ℤ) → pos n *ℤ (a +ℤ b) ≡ (pos n *ℤ a) +ℤ (pos n *ℤ b)
 *ℤ-+ℤ_pos zero a b = rw (zero-*ℤ (a +ℤ b), zero-*ℤ a, zero-*ℤ b)
@@ -112,9 +113,6 @@ chosen_greatest f (y ∷ ys) [] (false ∷ x) = let m = max_above (f y) in omega
 chosen_greatest f (y ∷ ys) (None ∷ ds) (true ∷ x) = let m = max_above (f y) in omega (arith, ints, chosen_greatest f ys ds x)
 chosen_greatest f (y ∷ ys) (None ∷ ds) (false ∷ x) = let m = max_above (f y) in omega (arith, ints, chosen_greatest f ys ds x)
 chosen_greatest f (y ∷ ys) (Some d ∷ ds) (b ∷ x) = chosen_greatest f ys ds x
-
-below_from_test : (a b : ℤ) → int_lt a b ≡ true → a <ℤ b
-below_from_test a b h = grind (arith, ints)
 
 pub cut_none : (s : System) (ds : Decisions) (ws : List CutRow) → CutPasses s ds ws → solutions_with s ds ≡ []
 cut_none s ds ws h = none_solves s ds (λ x l k.

@@ -5,6 +5,7 @@ pub mod EntryLaws
 pub mod CommonDivisors
 pub mod DecisionSplits
 pub mod NoSolutions
+pub mod SignedNumbers
 pub mod SettledDecisions
 pub mod CutBounds
 pub mod EntryMeanings

@@ -1,5 +1,5 @@
 -- What is left of the solutions and of the walk from a path on.
-use Rattle.std.proofs.Common.{◌≡◌, ◌+◌, ◌-◌, ◌≤◌, Bool, true, false, List, [], ◌∷◌, ◌++◌, length, refl, sym, ◌∙◌, arith, length-append}
+use Rattle.std.proofs.Common.{◌≡◌, ◌+◌, ◌-◌, ◌≤◌, Bool, true, false, List, [], ◌∷◌, ◌++◌, length, refl, sym, ap, ◌∙◌, arith, length-append}
 use Rattle.std.specs.Prelude.{filter, ◌&&◌}
 use Rattle.std.proofs.lemmas.Bool.{false≢true}
 use Rattle.std.proofs.lemmas.List.{append_assoc, append-nil}
@@ -8,12 +8,20 @@ use Rattle.std.proofs.Math.Bool.{and_comm}
 use Rattle.df_lists.proofs.TestLaws.{filter-filter, filter_never}
 use Rattle.df_walk.specs.declared.Rules.{Rules}
 use Rattle.df_walk.specs.Systems.{System, IsSystem}
-use Rattle.df_walk.specs.Solutions.{keeps, is_solution, solutions_with, vectors}
+use Rattle.df_walk.specs.Solutions.{keeps, is_solution, solutions, solutions_with, vectors}
 use Rattle.df_walk.specs.Walks.{decided, walk, solutions_in, solution_of}
 use Rattle.df_walk.specs.Paths.{not_before, rest}
 use Rattle.df_walk.specs.Remains.{later_walk, walk_on}
 use Rattle.df_walk.proofs.DecisionSplits.{filter_path}
 use Rattle.df_walk.proofs.WalkSolutions.{solutions_in-walk_from}
+
+-- nothing is before the empty path
+pub rest_all : (s : System) → rest s [] ≡ solutions s
+rest_all s = go (solutions s)
+  where
+    go : (xs : List (List Bool)) → filter (not_before []) xs ≡ xs
+    go [] = refl
+    go (x ∷ xs) = ap (λ l. x ∷ l) (go xs)
 
 -- what a kept path says of the order
 not_before_kept : (p x : List Bool) → keeps (decided p) x ≡ true → not_before p x ≡ true

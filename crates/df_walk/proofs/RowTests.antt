@@ -1,8 +1,9 @@
 -- Tests of all rows, and the least row that passes one.
-use Rattle.std.proofs.Common.{◌≡◌, ℕ, suc, zero, ◌+◌, ◌<◌, ◌≤◌, Bool, true, false, List, [], ◌∷◌, length, Some, None, refl, sym, ap, ◌∙◌, arith, inl, inr}
+use Rattle.std.proofs.Common.{◌≡◌, ℕ, suc, zero, ◌+◌, ◌<◌, ◌≤◌, Bool, true, false, List, [], ◌∷◌, length, Some, None, refl, sym, ◌∙◌, arith, inl, inr}
 use Rattle.std.specs.Prelude.{find}
 use Rattle.std.specs.List.{list_all, list_any, range_with_len}
 use Rattle.std.proofs.lemmas.Bool.{and_parts, and_from, true≢false, cases_eq, cases_Bool}
+use Rattle.df_lists.proofs.RangeLaws.{find_first, find_none}
 use Rattle.df_walk.specs.Systems.{System, rows_of}
 use Rattle.df_walk.specs.Assignments.{least_row}
 use Rattle.df_walk.specs.Logs.{RowPasses}
@@ -68,24 +69,12 @@ none_found p (r ∷ rs) h =
       | inr not_here ↦ rw not_here (none_found p rs (rw not_here at h))
     ]
 
-find_first : (p : ℕ → Bool) (a n r : ℕ) → a ≤ r → r < a + n → p r ≡ true → ((k : ℕ) → k < r → p k ≡ false) → find p (range_with_len a n) ≡ Some r
-find_first p a zero r low high here before = absurd (omega arith)
-find_first p a (suc n) r low high here before =
-    elim (cases_eq a r) [
-      | inl same ↦ let now : p a ≡ true = rw same here in rw now (ap Some same)
-      | inr other ↦ let not_now = before a (omega arith) in rw not_now (find_first p (a + 1) n r (omega arith) (omega arith) here before)
-    ]
-
 -- a row that passes, where none before it does, is the least
 pub least_row_is : (s : System) (p : ℕ → Bool) (r : ℕ) → r < length s.targets → p r ≡ true → ((k : ℕ) → k < r → p k ≡ false) → least_row s p ≡ Some r
-least_row_is s p r within here before = find_first p 0 (length s.targets) r (omega arith) (omega arith) here before
-
-find_never : (p : ℕ → Bool) (a n : ℕ) → ((k : ℕ) → k < a + n → p k ≡ false) → find p (range_with_len a n) ≡ None
-find_never p a zero h = refl
-find_never p a (suc n) h = let not_now = h a (omega arith) in rw not_now (find_never p (a + 1) n (λ k lt. h k (omega arith)))
+least_row_is s p r within here before = find_first p 0 (length s.targets) r (omega arith) (omega arith) here (λ k low lt. before k lt)
 
 pub least_row_none : (s : System) (p : ℕ → Bool) (n : ℕ) → length s.targets ≤ n → ((k : ℕ) → k < n → p k ≡ false) → least_row s p ≡ None
-least_row_none s p n long h = find_never p 0 (length s.targets) (λ k lt. h k (omega arith))
+least_row_none s p n long h = find_none p 0 (length s.targets) (λ k low lt. h k (omega arith))
 
 -- two tests that agree have one least row
 pub least_row_agrees : (s : System) (p q : ℕ → Bool) → ((r : ℕ) → p r ≡ q r) → least_row s p ≡ least_row s q

@@ -3,8 +3,8 @@
 //! The crates above cite the definitions in their contracts, the types below as their own, and the laws in their proofs.
 //! Laws for the rooms above: proofs/ColumnWidths, proofs/CommonDivisors, proofs/DeadPaths, proofs/DecisionLaws,
 //! proofs/EntryLaws, proofs/EntryMeanings, proofs/LogForms, proofs/NodeVisits, proofs/PaddedPaths,
-//! proofs/RestSolutions, proofs/RowTests, proofs/WalkCuts, proofs/WalkLogs, proofs/WalkNodes, proofs/WalkOrder,
-//! proofs/WalkSolutions, proofs/WalkSteps.
+//! proofs/RestSolutions, proofs/RowTests, proofs/SignedNumbers, proofs/WalkCuts, proofs/WalkLogs, proofs/WalkNodes,
+//! proofs/WalkOrder, proofs/WalkSolutions, proofs/WalkSteps.
 #![tactic(auto)]
 
 pub mod laws;

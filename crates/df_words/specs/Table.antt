@@ -23,7 +23,8 @@ named word =
     (if bytes_eq word (codes "verify") then Some name.Verify else
     (if bytes_eq word (codes "orbits") then Some name.Orbits else
     (if bytes_eq word (codes "matrix") then Some name.Matrix else
-    (if bytes_eq word (codes "solve") then Some name.Solve else None)))))
+    (if bytes_eq word (codes "solve") then Some name.Solve else
+    (if bytes_eq word (codes "resume") then Some name.Resume else None))))))
 
 -- the option that a word names
 abbrev pub flagged : List ℕ → Option Flag
@@ -33,11 +34,14 @@ flagged word =
     (if bytes_eq word (codes "--blocks") then Some flag.Blocks else
     (if bytes_eq word (codes "--json") then Some flag.Json else None)))
 
--- whether a command has an option: a search has a budget, a log, and the blocks of its designs
+-- whether a command has an option: a search, new or going on, has a budget, a log, and the blocks of its designs
 abbrev pub takes : Name → Flag → Bool
 takes name.Solve flag.Budget = true
 takes name.Solve flag.Log = true
 takes name.Solve flag.Blocks = true
+takes name.Resume flag.Budget = true
+takes name.Resume flag.Log = true
+takes name.Resume flag.Blocks = true
 takes name flag = false
 
 -- whether the first option excludes the second: each excludes itself, and the log and the JSON text exclude each other
@@ -111,3 +115,4 @@ command_named name.Verify n stated = command.Verify
 command_named name.Orbits n stated = command.Orbits
 command_named name.Matrix n stated = command.Matrix
 command_named name.Solve n stated = command.Solve (options_in stated)
+command_named name.Resume n stated = command.Resume (options_in stated)

@@ -1,6 +1,6 @@
 // What the program can be asked for.
 
-/// How designs are searched for, and what is written beside them.
+/// How designs are searched for, by a new search or by one that goes on, and what is written beside them.
 #[derive(Clone, Copy, Debug, PartialEq, Eq)]
 pub struct Options {
     /// The most nodes that are visited, from `LEAST_BUDGET` to `MOST_BUDGET`; `DEFAULT_BUDGET` where none is stated.
@@ -26,4 +26,6 @@ pub enum Command {
     Matrix,
     /// The designs that a problem asks for.
     Solve(Options),
+    /// The designs that a search has still to find, which ended spent: it goes on where its dossier says.
+    Resume(Options),
 }

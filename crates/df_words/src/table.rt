@@ -13,6 +13,7 @@ pub enum Name {
     Orbits,
     Matrix,
     Solve,
+    Resume,
 }
 
 /// The options, by their words.
@@ -68,6 +69,7 @@ pub fn named(word: &str) -> Option<Name>
         "orbits" => Some(Name::Orbits),
         "matrix" => Some(Name::Matrix),
         "solve" => Some(Name::Solve),
+        "resume" => Some(Name::Resume),
         _ => None,
     }
 }
@@ -97,6 +99,8 @@ pub fn takes(name: Name, flag: Flag) -> bool
         (Name::Matrix, _) => false,
         (Name::Solve, Flag::Json) => false,
         (Name::Solve, _) => true,
+        (Name::Resume, Flag::Json) => false,
+        (Name::Resume, _) => true,
     }
 }
 
@@ -124,6 +128,7 @@ pub fn number(name: Name) -> Option<Bounds>
         Name::Orbits => None,
         Name::Matrix => None,
         Name::Solve => None,
+        Name::Resume => None,
     }
 }
 
@@ -195,5 +200,6 @@ pub fn command(name: Name, number: u64, stated: Stated) -> Command
         Name::Orbits => Command::Orbits,
         Name::Matrix => Command::Matrix,
         Name::Solve => Command::Solve(stated.options()),
+        Name::Resume => Command::Resume(stated.options()),
     }
 }

@@ -64,6 +64,35 @@ fn reads_the_options_of_a_search_in_any_order(rt: HostRuntime) -> Result<(), Fai
 }
 
 #[test]
+fn reads_the_options_of_a_search_that_goes_on(rt: HostRuntime) -> Result<(), Fail> {
+    for (words, budget, log, blocks) in [
+        (&["resume"][..], 1_000_000_000, false, false),
+        (&["resume", "--log"][..], 1_000_000_000, true, false),
+        (&["resume", "--budget", "1"][..], 1, false, false),
+        (
+            &["resume", "--blocks", "--budget", "1000000000000000"][..],
+            1_000_000_000_000_000,
+            false,
+            true,
+        ),
+        (
+            &["resume", "--budget", "05", "--blocks", "--log"][..],
+            5,
+            true,
+            true,
+        ),
+    ] {
+        let options = Options {
+            budget,
+            log,
+            blocks,
+        };
+        assert_eq!(rt; read(rt.alloc(), words)?, Ok(Command::Resume(options)));
+    }
+    Ok(())
+}
+
+#[test]
 fn names_the_first_word_at_fault(rt: HostRuntime) -> Result<(), Fail> {
     for (words, word) in [
         (&[][..], 1),
@@ -75,7 +104,7 @@ fn names_the_first_word_at_fault(rt: HostRuntime) -> Result<(), Fail> {
         (&["--version"][..], 1),
         (&["--log"][..], 1),
         (&["solved"][..], 1),
-        (&["resume"][..], 1),
+        (&["resumed"][..], 1),
         (&["workload", "7"][..], 1),
         (&["check", "verify"][..], 1),
         (&["verify", "verify"][..], 2),
@@ -96,6 +125,12 @@ fn names_the_first_word_at_fault(rt: HostRuntime) -> Result<(), Fail> {
         (&["solve", "--blocks", "--log", "--blocks"][..], 4),
         (&["solve", "--budget", "2", "--budget", "2"][..], 4),
         (&["solve", "--budget", "2", "3"][..], 4),
+        (&["resume", "solve"][..], 2),
+        (&["resume", "--json"][..], 2),
+        (&["resume", "--log", "--json"][..], 3),
+        (&["resume", "--budget", "0"][..], 3),
+        (&["resume", "--budget", "1000000000000001"][..], 3),
+        (&["resume", "--log", "--blocks", "--log"][..], 4),
     ] {
         assert_eq!(rt; read(rt.alloc(), words)?, Err(UsageFault { word }));
     }

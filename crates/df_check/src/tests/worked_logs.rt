@@ -138,7 +138,7 @@ fn residues_and_cuts_are_accepted(rt: HostRuntime) {
 }
 
 #[test]
-fn faults_are_told_with_their_numbers(rt: HostRuntime) {
+fn faults_of_branches_and_of_rows_are_told(rt: HostRuntime) {
     let alloc = rt.alloc();
     faults(&rt, alloc, PAIRS, &[Line::Branch(3)], LogFault::ColumnRange);
     faults(
@@ -173,6 +173,11 @@ fn faults_are_told_with_their_numbers(rt: HostRuntime) {
         &met,
         LogFault::NotUnder { need: 0, cap: 1 },
     );
+}
+
+#[test]
+fn faults_of_settled_entries_and_residues_are_told(rt: HostRuntime) {
+    let alloc = rt.alloc();
     faults(
         &rt,
         alloc,
@@ -214,6 +219,11 @@ fn faults_are_told_with_their_numbers(rt: HostRuntime) {
         &[Line::Residue(0, 0)],
         LogFault::NotResidue { need: 3, column: 0 },
     );
+}
+
+#[test]
+fn faults_of_cuts_are_told(rt: HostRuntime) {
+    let alloc = rt.alloc();
     let one = [Line::Cut(&[CutRow { weight: 1, row: 0 }])];
     faults(
         &rt,
@@ -238,6 +248,11 @@ fn faults_are_told_with_their_numbers(rt: HostRuntime) {
     );
     let far = [Line::Cut(&[CutRow { weight: 1, row: 0 }, CutRow { weight: 1, row: 1 }])];
     faults(&rt, alloc, EVEN, &far, LogFault::RowRange);
+}
+
+#[test]
+fn faults_of_leaves_are_told(rt: HostRuntime) {
+    let alloc = rt.alloc();
     let leaf = [Line::Branch(2), Line::Settled, Line::Leaf(&[1, 2])];
     faults(
         &rt,

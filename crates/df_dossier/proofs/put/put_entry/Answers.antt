@@ -9,13 +9,13 @@ pub put_rows-requires : goal.put_rows-requires
 put_rows-requires c =
     let text : entry_text c.args.entry ≡ codes "cut" ++ flat_map (λ w. after_spaces (row_tokens w)) c.in-Cut.rows.items = ap entry_text c.in-Cut.is ∙ cut_text c.in-Cut.rows.items in
     let rows = ap (λ ws. length (flat_map (λ w. after_spaces (row_tokens w)) ws)) c.deref.ensures.0 in
-    omega (arith, c.requires, ap length text, length-append (codes "cut") (flat_map (λ w. after_spaces (row_tokens w)) c.in-Cut.rows.items), rows, c.put_text-in-Cut.ensures.len)
+    omega (arith, c.requires, ap length text, length-append (codes "cut") (flat_map (λ w. after_spaces (row_tokens w)) c.in-Cut.rows.items), rows, c.put_text.ensures.len)
 
 pub returns-in-Cut-clause-text : goal.returns-in-Cut-clause-text
 returns-in-Cut-clause-text c =
     let text : entry_text c.args.entry ≡ codes "cut" ++ flat_map (λ w. after_spaces (row_tokens w)) c.in-Cut.rows.items = ap entry_text c.in-Cut.is ∙ cut_text c.in-Cut.rows.items in
     c.put_rows.ensures.text
-    ∙ ap (λ l. l ++ flat_map (λ w. after_spaces (row_tokens w)) c.deref.result.now) c.put_text-in-Cut.ensures.text
+    ∙ ap (λ l. l ++ flat_map (λ w. after_spaces (row_tokens w)) c.deref.result.now) c.put_text.ensures.text
     ∙ append_assoc c.args.buf.now.items (codes "cut") (flat_map (λ w. after_spaces (row_tokens w)) c.deref.result.now)
     ∙ ap (λ ws. c.args.buf.now.items ++ (codes "cut" ++ flat_map (λ w. after_spaces (row_tokens w)) ws)) c.deref.ensures.0
     ∙ ap (λ l. c.args.buf.now.items ++ l) (sym text)

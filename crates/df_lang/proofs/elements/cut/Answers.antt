@@ -1,6 +1,6 @@
 use Rattle.std.proofs.Common.{◌+◌, sym}
 use Rattle.std.proofs.lemmas.List.{take_rest}
-use Rattle.df_lang.proofs.ElementParts.{cut_at, cut_none}
+use Rattle.df_lang.proofs.ElementPieces.{cut_at, cut_none}
 use Rattle.df_lang.proofs.elements.cut.Goals as goal
 
 pub returns-in-Some : goal.returns-in-Some

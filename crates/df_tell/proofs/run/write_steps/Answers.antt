@@ -1,26 +1,13 @@
-use Rattle.std.proofs.Common.{subst, refl, arith, ◌-◌}
-use Rattle.df_tell.specs.RunSteps.{IsOver, EndsOrGoesOn}
-use Rattle.df_tell.proofs.RunSteps.{tells_then, stopped_text, over_text, over_ran, err_written}
+use Rattle.df_tell.proofs.RunSteps.{err_written}
+use Rattle.df_tell.proofs.GatheredTexts.{written_whole, written_stopped, written_late}
 use Rattle.df_tell.proofs.run.write_steps.Goals as goal
 
-pub returns-in_err-end-clause-written : goal.returns-in_err-end-clause-written
-returns-in_err-end-clause-written g c =
-    stopped_text c.requires.counted (tells_then c.loop-end.invariant.tells c.in_err-end.ensures.tells) (err_written c.from_residual.result c.from_residual.ensures.0)
+pub returns-in_err-ran-clause-written : goal.returns-in_err-ran-clause-written
+returns-in_err-ran-clause-written g c = written_stopped (rw c.clear.ensures at c.in_err-ran.ensures.gathers) (err_written c.from_residual.result c.from_residual.ensures.0)
 
-pub returns-in-Some-clause-written : goal.returns-in-Some-clause-written
-returns-in-Some-clause-written g c =
-    let new = c.write_step.new.designs.search in
-    let left = c.write_step.new.counts.left in
-    let over : IsOver new left c.in-Some.end = subst (EndsOrGoesOn c.loop-end.designs.search new left) c.in-Some.is c.in_ok-end.ensures.ends in
-    over_text c.requires.counted (tells_then c.loop-end.invariant.tells c.in_ok-end.ensures.tells) over
+pub returns-in_err-write_gathered-clause-written : goal.returns-in_err-write_gathered-clause-written
+returns-in_err-write_gathered-clause-written g c =
+    written_late (rw c.clear.ensures at c.in_ok-ran.ensures.gathers) c.in_err-write_gathered.ensures.same (err_written c.from_residual-in_err-write_gathered.result c.from_residual-in_err-write_gathered.ensures.0)
 
-pub returns-in-Some-clause-ran : goal.returns-in-Some-clause-ran
-returns-in-Some-clause-ran g c =
-    let new = c.write_step.new.designs.search in
-    let left = c.write_step.new.counts.left in
-    let over : IsOver new left c.in-Some.end = subst (EndsOrGoesOn c.loop-end.designs.search new left) c.in-Some.is c.in_ok-end.ensures.ends in
-    over_ran (c.args.budget - left) c.requires.counted (tells_then c.loop-end.invariant.tells c.in_ok-end.ensures.tells) over refl
-    (omega (arith, c.loop-end.invariant.tells.nodes, c.in_ok-end.ensures.tells.nodes))
-
-pub loop-end-preserved : goal.loop-end-preserved
-loop-end-preserved g c = record { tells = tells_then c.loop-end.invariant.tells c.in_ok-end.ensures.tells }
+pub returns-clause-written : goal.returns-clause-written
+returns-clause-written g c = written_whole (rw c.clear.ensures at c.in_ok-ran.ensures.gathers) c.in_ok-write_gathered.ensures.same c.in_ok-write_gathered.ensures.empty

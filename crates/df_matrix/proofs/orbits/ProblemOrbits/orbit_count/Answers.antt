@@ -12,5 +12,8 @@ returns-clause-count c = c.len.ensures ∙ blocks_long c.args.self.now (are c)
 pub returns-clause-few : goal.returns-clause-few
 returns-clause-few c = omega (arith, c.len.ensures, blocks_long c.args.self.now (are c), orbits_few c.args.self.now (are c))
 
+pub returns-clause-blocks : goal.returns-clause-blocks
+returns-clause-blocks c = (are c).few
+
 pub returns-clause-stated : goal.returns-clause-stated
 returns-clause-stated c = (are c).stated

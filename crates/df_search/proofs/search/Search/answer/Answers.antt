@@ -18,4 +18,4 @@ returns-clause-entry c =
 
 pub returns-clause-answer : goal.returns-clause-answer
 returns-clause-answer c =
-    answer_of c.args.self.now _ c.args.budget.now c.answer_of-state.new.budget c.answer_of-state.result.1 (returns-clause-entry c) (λ h. stands c.answer_of-state.result.0 c.self.inside.held.rules c.self.inside.held c.self.inside.held.path c.length.ensures.system (rw c.length.ensures.value at c.length.ensures.within) c.self.invariant.visited h)
+    answer_of c.args.self.now _ c.args.budget.now c.answer_of-state.new.budget c.answer_of-state.result.1 (returns-clause-entry c) (λ h. stands c.answer_of-state.result.0 c.self.inside.held.rules c.self.inside.held _ c.length.ensures.system (rw c.length.ensures.value at c.length.ensures.within) c.self.invariant.visited h)
