@@ -1,5 +1,5 @@
 -- The pieces of a whole dossier, and of those after it.
-use Rattle.std.proofs.Common.{◌≡◌, ℕ, zero, suc, ◌+◌, ◌-◌, ◌≤◌, ◌<◌, ◌&&◌, Bool, true, false, cond, nat_lt, nat_le, List, [], ◌∷◌, ◌++◌, length, take, drop, map, Option, Some, None, IfSome, IfOk, Result, Ok, Err, codes, refl, sym, ap, subst, ◌∙◌, arith, tests, append_assoc}
+use Rattle.std.proofs.Common.{◌≡◌, ℕ, zero, suc, ◌+◌, ◌≤◌, ◌<◌, ◌&&◌, Bool, true, false, cond, nat_lt, nat_le, List, [], ◌∷◌, ◌++◌, length, take, drop, map, Option, Some, None, IfSome, IfOk, Result, Ok, Err, codes, refl, sym, ap, subst, ◌∙◌, arith, tests, append_assoc}
 use Rattle.std.proofs.lemmas.List.{length-take-le}
 use Rattle.df_io.specs.Lines.{tokens_of}
 use Rattle.df_io.specs.Number.{number_read}

@@ -1,5 +1,5 @@
 -- The pieces of lines, one after the other.
-use Rattle.std.proofs.Common.{◌≡◌, ℕ, ◌+◌, ◌-◌, Bool, true, false, cond, List, [], ◌∷◌, Option, Some, None, option_map, ◌⊎◌, inl, inr, IfSome, bytes_eq, codes, nat_eq, refl, sym, ap, subst, ◌∙◌}
+use Rattle.std.proofs.Common.{◌≡◌, ℕ, ◌+◌, ◌-◌, Bool, true, false, cond, List, [], ◌∷◌, Option, Some, None, option_map, ◌⊎◌, inl, inr, IfSome, bytes_eq, codes, nat_eq, refl, sym, ap, subst}
 use Rattle.df_io.specs.Lines.{tokens_of}
 use Rattle.df_walk.specs.declared.Rules.{Rules}
 use Rattle.df_dossier.specs.declared.judge.Awaits.{Awaits}
@@ -9,11 +9,11 @@ use Rattle.df_dossier.specs.declared.judge.DossierFault.TheVariants as fault
 use Rattle.df_dossier.specs.declared.judge.Judged.{Judged}
 use Rattle.df_dossier.specs.declared.judge.Piece.{Piece}
 use Rattle.df_dossier.specs.declared.judge.Piece.TheVariants as piece
-use Rattle.df_dossier.specs.Tokens.{◌>>?◌, first_then, ending}
+use Rattle.df_dossier.specs.Tokens.{◌>>?◌, ending}
 use Rattle.df_dossier.specs.Entries.{entry_read}
 use Rattle.df_dossier.specs.Paths.{past}
 use Rattle.df_dossier.specs.Judging.{judged, judged_or, bad, head_of, count_of, after_source, named_count, finished_of, spent_of, end_of, log_judged, tokens_judged, line_judged, end_judged, next_of}
-use Rattle.df_dossier.specs.Pieces.{Pieces, PieceScan, only, is_bad, first_piece, later_pieces, piece_then, pieces_from, rest_of}
+use Rattle.df_dossier.specs.Pieces.{Pieces, PieceScan, is_bad, first_piece, later_pieces, piece_then, pieces_from, rest_of}
 
 -- no line broke a rule yet
 abbrev pub goes_on : Awaits → Bool
