@@ -18,4 +18,6 @@ pub mod RunPaths
 pub mod PutPlaces
 pub mod StreamSteps
 pub mod PieceSteps
+pub mod DossierSteps
+pub mod DossierOrder
 pub mod SpentKept

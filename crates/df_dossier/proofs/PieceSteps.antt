@@ -1,5 +1,5 @@
 -- The pieces of lines, one after the other.
-use Rattle.std.proofs.Common.{◌≡◌, ℕ, ◌+◌, ◌-◌, Bool, true, false, cond, List, [], ◌∷◌, Option, Some, None, option_map, ◌⊎◌, inl, inr, IfSome, bytes_eq, codes, nat_eq, refl, sym, ap, subst, ◌∙◌}
+use Rattle.std.proofs.Common.{◌≡◌, ℕ, ◌+◌, ◌-◌, Bool, true, false, cond, List, [], ◌∷◌, Option, Some, None, option_map, ◌⊎◌, inl, inr, IfSome, bytes_eq, codes, nat_eq, refl, sym, ap, subst}
 use Rattle.df_io.specs.Lines.{tokens_of}
 use Rattle.df_walk.specs.declared.Rules.{Rules}
 use Rattle.df_dossier.specs.declared.judge.Awaits.{Awaits}
@@ -9,11 +9,11 @@ use Rattle.df_dossier.specs.declared.judge.DossierFault.TheVariants as fault
 use Rattle.df_dossier.specs.declared.judge.Judged.{Judged}
 use Rattle.df_dossier.specs.declared.judge.Piece.{Piece}
 use Rattle.df_dossier.specs.declared.judge.Piece.TheVariants as piece
-use Rattle.df_dossier.specs.Tokens.{◌>>?◌, first_then, ending}
+use Rattle.df_dossier.specs.Tokens.{◌>>?◌, ending}
 use Rattle.df_dossier.specs.Entries.{entry_read}
 use Rattle.df_dossier.specs.Paths.{past}
 use Rattle.df_dossier.specs.Judging.{judged, judged_or, bad, head_of, count_of, after_source, named_count, finished_of, spent_of, end_of, log_judged, tokens_judged, line_judged, end_judged, next_of}
-use Rattle.df_dossier.specs.Pieces.{Pieces, PieceScan, only, is_bad, first_piece, later_pieces, piece_then, pieces_from, rest_of}
+use Rattle.df_dossier.specs.Pieces.{Pieces, PieceScan, is_bad, first_piece, later_pieces, piece_then, pieces_from, rest_of}
 
 -- no line broke a rule yet
 abbrev pub goes_on : Awaits → Bool
@@ -49,7 +49,7 @@ all_pass : {A : Type 0} (o : Option A) (P : A → Type 0) → ((x : A) → P x) 
 all_pass None P all = tt
 all_pass (Some x) P all = all x
 
-then_some : {A B : Type 0} (o : Option A) (f : A → Option B) (P : B → Type 0) → ((x : A) → IfSome (f x) P) → IfSome (o >>? f) P
+pub then_some : {A B : Type 0} (o : Option A) (f : A → Option B) (P : B → Type 0) → ((x : A) → IfSome (f x) P) → IfSome (o >>? f) P
 then_some None f P all = tt
 then_some (Some x) f P all = all x
 
@@ -57,30 +57,27 @@ mapped_some : {A B : Type 0} (o : Option A) (f : A → B) (P : B → Type 0) →
 mapped_some None f P all = tt
 mapped_some (Some x) f P all = all x
 
--- what an end line says breaks no rule
-abbrev IsEnd : Piece → Type 0
-IsEnd p = is_bad p ≡ false
-
-finished_is : (tokens : List (List ℕ)) → IfSome (finished_of tokens) IsEnd
-finished_is tokens =
-    then_some (named_count (codes "designs") tokens) _ IsEnd (λ designs. then_some (named_count (codes "nodes") designs.more) _ IsEnd (λ nodes. at_end designs.n nodes.n nodes.more)) where
-      at_end : (d n : ℕ) (more : List (List ℕ)) → IfSome (ending more (piece.End true d n)) IsEnd
-      at_end d n [] = refl
+-- what an end line says
+finished_says : (P : Piece → Type 0) → ((f : Bool) (d n : ℕ) → P (piece.End f d n)) → (tokens : List (List ℕ)) → IfSome (finished_of tokens) P
+finished_says P all tokens =
+    then_some (named_count (codes "designs") tokens) _ P (λ designs. then_some (named_count (codes "nodes") designs.more) _ P (λ nodes. at_end designs.n nodes.n nodes.more)) where
+      at_end : (d n : ℕ) (more : List (List ℕ)) → IfSome (ending more (piece.End true d n)) P
+      at_end d n [] = all true d n
       at_end d n (token ∷ more) = tt
 
-spent_is : (tokens : List (List ℕ)) → IfSome (spent_of tokens) IsEnd
-spent_is tokens =
-    then_some (named_count (codes "designs") tokens) _ IsEnd (λ designs. then_some (named_count (codes "nodes") designs.more) _ IsEnd (λ nodes. mapped_some (past (codes "next") nodes.more) (λ path. piece.End false designs.n nodes.n) IsEnd (λ path. refl)))
+spent_says : (P : Piece → Type 0) → ((f : Bool) (d n : ℕ) → P (piece.End f d n)) → (tokens : List (List ℕ)) → IfSome (spent_of tokens) P
+spent_says P all tokens =
+    then_some (named_count (codes "designs") tokens) _ P (λ designs. then_some (named_count (codes "nodes") designs.more) _ P (λ nodes. mapped_some (past (codes "next") nodes.more) (λ path. piece.End false designs.n nodes.n) P (λ path. all false designs.n nodes.n)))
 
-end_is : (tokens : List (List ℕ)) → IfSome (end_of tokens) IsEnd
-end_is [] = tt
-end_is (token ∷ rest) = by_word (bytes_eq token (codes "finished")) (bytes_eq token (codes "spent")) where
-  by_word : (a b : Bool) → IfSome (cond a (finished_of rest) (cond b (spent_of rest) None)) IsEnd
-  by_word true b = finished_is rest
-  by_word false true = spent_is rest
+pub end_says : (P : Piece → Type 0) → ((f : Bool) (d n : ℕ) → P (piece.End f d n)) → (tokens : List (List ℕ)) → IfSome (end_of tokens) P
+end_says P all [] = tt
+end_says P all (token ∷ rest) = by_word (bytes_eq token (codes "finished")) (bytes_eq token (codes "spent")) where
+  by_word : (a b : Bool) → IfSome (cond a (finished_of rest) (cond b (spent_of rest) None)) P
+  by_word true b = finished_says P all rest
+  by_word false true = spent_says P all rest
   by_word false false = tt
 
-end_passes : (o : Option Piece) → IfSome o IsEnd → IfSome o (λ p. Passes (judged awaits.Next p))
+end_passes : (o : Option Piece) → IfSome o (λ p. is_bad p ≡ false) → IfSome o (λ p. Passes (judged awaits.Next p))
 end_passes None ends = tt
 end_passes (Some p) ends = (ends, refl)
 
@@ -88,7 +85,7 @@ log_fits : (rules : Rules) (first : List ℕ) (tokens : List (List ℕ)) → Fit
 log_fits rules first tokens = by_word (bytes_eq first (codes "design")) (bytes_eq first (codes "end")) where
   by_word : (a b : Bool) → Fits (cond a (judged (awaits.Log rules) piece.Design) (cond b (judged_or fault.BadEnd (option_map (judged awaits.Next) (end_of tokens))) (judged_or fault.BadEntry (option_map (λ e. judged (awaits.Log rules) (piece.Entry e)) (entry_read rules (first ∷ tokens))))))
   by_word true b = inl (refl, refl)
-  by_word false true = fits_or fault.BadEnd (end_of tokens) (judged awaits.Next) (end_passes (end_of tokens) (end_is tokens))
+  by_word false true = fits_or fault.BadEnd (end_of tokens) (judged awaits.Next) (end_passes (end_of tokens) (end_says (λ p. is_bad p ≡ false) (λ f d n. refl) tokens))
   by_word false false = fits_or fault.BadEntry (entry_read rules (first ∷ tokens)) (λ e. judged (awaits.Log rules) (piece.Entry e)) (all_pass (entry_read rules (first ∷ tokens)) _ (λ e. (refl, refl)))
 
 tokens_fit : (a : Awaits) (tokens : List (List ℕ)) → IfSome (tokens_judged a tokens) Fits

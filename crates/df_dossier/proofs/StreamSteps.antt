@@ -1,5 +1,5 @@
 -- A dossier that is read from a source: a line more, the end, a stop, and a refusal with the rest of the input behind it.
-use Rattle.std.proofs.Common.{◌≡◌, ℕ, ◌+◌, ◌-◌, ◌<◌, ◌≤◌, ◌++◌, Bool, true, false, List, [], ◌∷◌, length, None, Some, Ok, Err, Result, refl, sym, ap, subst, ◌∙◌, append_assoc, append-nil, arith, length-append}
+use Rattle.std.proofs.Common.{◌≡◌, ℕ, ◌+◌, ◌-◌, ◌<◌, ◌≤◌, ◌++◌, false, List, [], ◌∷◌, length, None, Some, Ok, Err, refl, sym, ap, subst, ◌∙◌, append_assoc, append-nil, arith, length-append}
 use Rattle.std.specs.declared.option.Option.{Option}
 use Rattle.std.specs.Option.{IsSome}
 use Rattle.std.specs.Io.KnownBytes.{Consumes, IsAtEnd, prepend_known}
@@ -7,7 +7,7 @@ use Rattle.std.proofs.KnownBytes.{Consumes-trans, Consumes-nil}
 use Rattle.df_io.specs.declared.bytes.ReadError.{ReadError}
 use Rattle.df_io.specs.declared.bytes.ReadError.TheVariants.{ReadFault, TooLong, OutOfMemory}
 use Rattle.df_io.specs.declared.bytes.TheConstants.{MOST_BYTES}
-use Rattle.df_io.specs.Causes.{Rose, ConsumesAtMost}
+use Rattle.df_io.specs.Causes.{ConsumesAtMost}
 use Rattle.df_io.specs.Lines.{lines_of, onto_line}
 use Rattle.df_io.specs.Joined.{Lacks, is_line_feed}
 use Rattle.df_io.specs.Streams.{Stream, Ending, Reads, IsStream, IsNextLine, IsNoLine, is_too_long, line_end, to_come, new_stream}

@@ -15,4 +15,5 @@ pub mod TextsBack
 pub mod RunPaths
 pub mod SpentStreams
 pub mod Pieces
+pub mod DossierPieces
 pub mod SpentRules

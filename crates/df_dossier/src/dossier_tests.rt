@@ -1,8 +1,6 @@
-// Whole dossiers: what they say, worked out by hand; what is missing from each prefix; and sources that give them in
-// pieces.
-ghost use Rattle.std.specs.Prelude.{◌≤◌};
-
+// Whole dossiers: what they say, worked out by hand, read as a slice and from sources that give them in pieces.
 use super::*;
+use crate::anyhow_tests::{Answer, anyhow};
 use df_lang::{Needed, SourceFault};
 use std::alloc::{AllocError, Global};
 use std::test::Fail;
@@ -13,32 +11,12 @@ const HEAD: &[u8] = b"dossier 2\nsource 3\ngroup 7\nk 3\nlambda 1\n";
 const PLANE: &[u8] =
     b"dossier 2\nsource 3\ngroup 7\nk 3\nlambda 1\nfrom 0\nbranch 0\nsettled\ndesign 0 1 3\nend spent designs 1 nodes 2 next 1\n";
 
-// Nothing where the path was read; or the line of the fault and the fault; or out of memory.
-#[derive(Clone, Copy, Debug, PartialEq, Eq)]
-enum Answer {
-    Path(u32),
-    Fault(u64, DossierFault),
-    NoMemory,
-}
-
-fn told(read: Result<Spent, SpentError>) -> Answer {
-    match read {
-        Ok(spent) => Answer::Path(spent.path.length()),
-        Err(SpentError::Refused { line, fault }) => Answer::Fault(line, fault),
-        Err(SpentError::OutOfMemory) => Answer::NoMemory,
-    }
-}
-
 // What the head and these lines say.
 fn after_head(alloc: Global, lines: &[u8]) -> Result<Answer, AllocError> {
     let mut text = Vec::new(alloc);
     text.extend_from_slice(HEAD)?;
     text.extend_from_slice(lines)?;
-    Ok(if text.len() <= 10_000 {
-        told(read_spent(alloc, &text))
-    } else {
-        Answer::NoMemory
-    })
+    Ok(anyhow(alloc, &text))
 }
 
 #[test]
@@ -101,7 +79,7 @@ fn faults_of_heads(rt: HostRuntime) {
             6,
         ),
     ] {
-        assert_eq!(rt; told(read_spent(alloc, text)), Answer::Fault(line, head));
+        assert_eq!(rt; anyhow(alloc, text), Answer::Fault(line, head));
     }
 }
 
@@ -131,7 +109,7 @@ fn faults_of_sources(rt: HostRuntime) {
         ),
     ] {
         assert_eq!(rt;
-            told(read_spent(alloc, text)),
+            anyhow(alloc, text),
             Answer::Fault(line, DossierFault::BadSource(fault))
         );
     }
@@ -201,49 +179,8 @@ fn faults_of_logs(rt: HostRuntime) -> Result<(), Fail> {
     );
     let plain = b"dossier 1\nsource 3\ngroup 7\nk 3\nlambda 1\nfrom 0\nresidue 1 2\n";
     assert_eq!(rt;
-        told(read_spent(alloc, plain)),
+        anyhow(alloc, plain),
         Answer::Fault(7, DossierFault::BadEntry)
     );
     Ok(())
-}
-
-// The prefixes of the plane's dossier that end up to a byte, from the one after the last row: worked out by another
-// program that follows the format's own words.
-#[test]
-fn prefixes_are_refused(rt: HostRuntime) {
-    let alloc = rt.alloc();
-    let head = DossierFault::BadHead;
-    let word = DossierFault::BadSource(SourceFault::BadWord);
-    let mut end = 0usize;
-    for (last, line, fault) in [
-        (0, 0, head),
-        (8, 1, head),
-        (10, 0, head),
-        (17, 2, head),
-        (31, 0, head),
-        (38, 5, word),
-        (40, 0, head),
-        (45, 6, head),
-        (47, 0, DossierFault::BadEnd),
-        (54, 7, DossierFault::BadEntry),
-        (56, 0, DossierFault::BadEnd),
-        (62, 8, DossierFault::BadEntry),
-        (64, 0, DossierFault::BadEnd),
-        (69, 9, DossierFault::BadEntry),
-        (71, 0, DossierFault::BadEnd),
-        (75, 9, DossierFault::BadDesign),
-        (77, 0, DossierFault::BadEnd),
-        (79, 10, DossierFault::BadEntry),
-        (110, 10, DossierFault::BadEnd),
-    ] {
-        for _ in 0..112u32 {
-            if end <= last && end <= PLANE.len() {
-                let prefix = &PLANE[..end];
-                assert_eq!(rt; told(read_spent(alloc, prefix)), Answer::Fault(line, fault));
-                end += 1;
-            }
-        }
-    }
-    assert_eq!(rt; end, 111);
-    assert_eq!(rt; told(read_spent(alloc, &PLANE[..111])), Answer::Path(1));
 }

@@ -2,10 +2,11 @@
 //! It stands on df_io for lines, tokens and numbers, on df_walk for entries and paths as words, on
 //! df_system for the type of paths, and on df_lang for problems and the texts of points and blocks.
 //! The crates above write lines by the `put_` calls, with the laws `.._is_short` for their room, and
-//! read them by `LineJudge`, `read_entry`, `read_path` and `read_design`, and a whole one that ended
-//! spent by `read_spent`; clauses cite `specs/Entries`, `specs/Paths`, `specs/Designs`,
-//! `specs/Judging`, `specs/Dossiers` and `specs/Spent`. That what is written is read back are the
-//! laws `.._read_back`.
+//! read them by `LineJudge` or `LineReader`, `read_entry`, `read_path` and `read_design`, and a whole
+//! one that ended spent by `read_spent`, or from a source by `read_spent_stream`; clauses cite
+//! `specs/Entries`, `specs/Paths`, `specs/Designs`, `specs/Judging`, `specs/Pieces`, `specs/Dossiers`,
+//! `specs/DossierPieces`, `specs/Spent` and `specs/SpentStreams`. That what is written is read back
+//! are the laws `.._read_back`.
 #![tactic(auto)]
 
 mod designs;
@@ -16,6 +17,7 @@ mod lengths;
 mod line_reader;
 mod numbers;
 mod paths;
+mod piece_laws;
 mod put;
 mod source_text;
 mod spent;
@@ -38,6 +40,7 @@ pub use lengths::{
 pub use line_reader::LineReader;
 pub use numbers::{MOST_COUNT, MOST_NUMBER};
 pub use paths::{PathRead, read_path};
+pub use piece_laws::pieces_are_those_of_dossiers;
 pub use put::{
     put_branch, put_design_block, put_design_start, put_end, put_entry, put_over, put_path_column,
     put_path_start, put_residue, put_settled, put_under,
@@ -46,11 +49,17 @@ pub use spent::{Spent, SpentError, read_spent};
 pub use stream::{StreamError, read_spent_stream};
 
 #[cfg(test)]
+mod anyhow_tests;
+#[cfg(test)]
 mod design_tests;
 #[cfg(test)]
 mod dossier_tests;
 #[cfg(test)]
+mod prefix_tests;
+#[cfg(test)]
 mod round_tests;
+#[cfg(test)]
+mod stream_tests;
 #[cfg(test)]
 mod tests;
 

@@ -7,12 +7,12 @@ use std::test::Fail;
 
 // Numbers that look random.
 #[derive(Clone, Copy, Debug, PartialEq, Eq)]
-struct Numbers {
-    state: u64,
+pub struct Numbers {
+    pub state: u64,
 }
 
 impl Numbers {
-    fn next(&mut self) -> u64 {
+    pub fn next(&mut self) -> u64 {
         self.state = self
             .state
             .wrapping_mul(6364136223846793005)
@@ -26,7 +26,7 @@ impl Numbers {
     }
 
     // A count of 64 bits, of few digits or of many.
-    fn count(&mut self) -> u64 {
+    pub fn count(&mut self) -> u64 {
         self.next() >> (self.next() % 64) as u32
     }
 
@@ -50,7 +50,7 @@ impl Numbers {
         rows
     }
 
-    fn entry(&mut self) -> Entry {
+    pub fn entry(&mut self) -> Entry {
         match self.next() % 6 {
             0 => Entry::Branch(self.place()),
             1 => Entry::Over(self.place()),
@@ -121,7 +121,11 @@ fn entries_are_written_and_read(rt: HostRuntime) {
 }
 
 // A path behind what the buffer holds; its length, and its columns.
-fn put_path(alloc: Global, buf: &mut LineBuf, numbers: &mut Numbers) -> Option<(u32, Vec<u32>)> {
+pub fn put_path(
+    alloc: Global,
+    buf: &mut LineBuf,
+    numbers: &mut Numbers,
+) -> Option<(u32, Vec<u32>)> {
     let mut columns = Vec::new(alloc);
     let length = numbers.place();
     path_piece_is_short(length);

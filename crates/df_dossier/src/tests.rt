@@ -200,20 +200,49 @@ fn letter(piece: Option<Piece>) -> u8 {
     }
 }
 
-// The letters of the lines of a text, and of its end.
+// The next piece has this letter, and its line this number and these bytes.
+fn reads(reader: &mut LineReader<'_>, read: u8, number: u64, text: &[u8]) -> bool {
+    let piece = reader.next();
+    letter(Some(piece)) == read && reader.line() == number && reader.text() == text
+}
+
+// The letters of the lines of a text, and of its end; `!` behind one that a `LineReader` doesn't have too. The number and
+// bytes of a line that breaks a rule stay, and those of the end are none.
 fn letters(alloc: Global, text: &[u8]) -> Result<Vec<u8>, AllocError> {
     let mut judge = LineJudge::new();
+    let mut reader = LineReader::new(text);
     let mut lines = Lines::new(text);
     let mut letters = Vec::new(alloc);
+    let mut number = 0;
+    let mut bytes = b"".as_slice();
+    let mut was_bad = false;
     for _ in 0..100u32 {
         let Some(line) = lines.next() else {
             break;
         };
-        if line.start <= line.end && line.end <= text.len() {
-            letters.push(letter(judge.line(&text[line.start..line.end])))?;
+        if line.start > line.end || line.end > text.len() {
+            break;
+        }
+        let read = letter(judge.line(&text[line.start..line.end]));
+        letters.push(read)?;
+        if !was_bad {
+            number = line.number;
+            bytes = &text[line.start..line.end];
+        }
+        was_bad = was_bad || matches!(read, b'H' | b'E' | b'N');
+        if read != b'-' && !reads(&mut reader, read, number, bytes) {
+            letters.push(b'!')?;
         }
     }
-    letters.push(letter(Some(judge.end())))?;
+    let read = letter(Some(judge.end()));
+    letters.push(read)?;
+    if !was_bad {
+        number = 0;
+        bytes = b"";
+    }
+    if !reads(&mut reader, read, number, bytes) || !reads(&mut reader, read, number, bytes) {
+        letters.push(b'!')?;
+    }
     Ok(letters)
 }
 
@@ -265,6 +294,7 @@ fn lines_are_judged(rt: HostRuntime) -> Result<(), Fail> {
         let letters = letters(rt.alloc(), text)?;
         assert_eq!(rt; letters.as_slice(), read);
     }
+    pieces_are_those_of_dossiers();
     Ok(())
 }
 

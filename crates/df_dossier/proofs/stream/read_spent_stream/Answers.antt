@@ -1,4 +1,4 @@
-use Rattle.std.proofs.Common.{◌≡◌, ◌+◌, ◌≤◌, List, ℕ, [], Ok, Err, Some, true, false, refl, sym, ap, subst, ◌∙◌}
+use Rattle.std.proofs.Common.{◌≡◌, ◌+◌, [], Ok, Err, Some, sym, ap, subst, ◌∙◌}
 use Rattle.df_dossier.specs.declared.spent.SpentError.TheVariants as spent_error
 use Rattle.df_dossier.specs.Spent.{spent, rest_from, StandsAt, GivesSpent, GoesOn}
 use Rattle.df_dossier.specs.SpentStreams.{ReadsSpent}

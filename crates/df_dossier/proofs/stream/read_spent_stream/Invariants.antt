@@ -1,4 +1,4 @@
-use Rattle.std.proofs.Common.{◌≡◌, ◌+◌, ◌-◌, ℕ, List}
+use Rattle.std.proofs.Common.{◌+◌, ◌-◌, ℕ, List}
 use Rattle.df_io.specs.declared.bytes.TheConstants.{MOST_BYTES}
 use Rattle.df_dossier.proofs.StreamSteps.{IsRead, Says}
 use Rattle.df_dossier.proofs.stream.read_spent_stream.Given as goal

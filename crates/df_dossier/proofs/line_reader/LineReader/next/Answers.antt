@@ -1,7 +1,6 @@
-use Rattle.std.proofs.Common.{◌≡◌, ◌+◌, ◌∷◌, drop, Some, option_map, sym, ap, subst, ◌∙◌}
+use Rattle.std.proofs.Common.{◌+◌, drop, sym, ap, ◌∙◌}
 use Rattle.std.specs.List.{slice_range}
 use Rattle.df_io.specs.Lines.{lines_of}
-use Rattle.df_dossier.specs.Judging.{line_judged}
 use Rattle.df_dossier.specs.Pieces.{pieces_from, rest_of}
 use Rattle.df_dossier.proofs.PieceSteps.{piece_said, scan_is}
 use Rattle.df_dossier.proofs.line_reader.LineReader.next.Goals as goal
