@@ -3,6 +3,7 @@
 use super::*;
 use crate::resume_tests::joined;
 use crate::tests::run_over;
+use df_io::MemSink;
 use std::process::Abort;
 use std::test::Fail;
 
@@ -31,6 +32,29 @@ struct Chain {
     designs: u64,
 }
 
+// Runs `resume` with a budget, with the log or without. It is spent exactly where its end line says so.
+fn resume_once(
+    rt: &(impl Abort + AllocGlobal),
+    input: &str,
+    logged: bool,
+    budget: u64,
+) -> Result<MemSink, Fail> {
+    let alloc = rt.alloc();
+    let number = format!(in alloc; "{budget}")?;
+    let mut words = Vec::new(alloc);
+    words.push("resume")?;
+    words.push("--budget")?;
+    words.push(number.as_str())?;
+    if logged {
+        words.push("--log")?;
+    }
+    let (status, _, sink) = run_over(alloc, words.as_slice(), input.as_bytes(), 4096, 0, 65_536)?;
+    let text = std::str::from_utf8(sink.bytes.as_slice()).unwrap_or("");
+    let wanted = if text.contains("\nend spent ") { 7 } else { 0 };
+    assert_eq!(rt; status.code(), wanted, "after {input}");
+    Ok(sink)
+}
+
 // Follows a chain from a dossier to its end. The first run has one budget, and each later one another.
 fn follow(
     rt: &(impl Abort + AllocGlobal),
@@ -48,10 +72,7 @@ fn follow(
     };
     let mut budget = first;
     for _ in 0..100 {
-        let number = format!(in alloc; "{budget}")?;
-        let words = ["resume", "--budget", number.as_str(), "--log"];
-        let asked = if logged { &words[..] } else { &words[..3] };
-        let (status, _, sink) = run_over(alloc, asked, input.as_bytes(), 4096, 0, 65_536)?;
+        let sink = resume_once(rt, input.as_str(), logged, budget)?;
         let text = std::str::from_utf8(sink.bytes.as_slice()).unwrap_or("");
         let (log, end) = log_and_end(text).unwrap_or(("", ""));
         chain.log.push_str(log)?;
@@ -59,8 +80,7 @@ fn follow(
         chain.nodes = chain.nodes.saturating_add(nodes);
         let designs = number_after(end, " designs ").unwrap_or(ALL);
         chain.designs = chain.designs.saturating_add(designs);
-        if status != Status::Spent {
-            assert_eq!(rt; status.code(), 0, "after {input}");
+        if !end.starts_with("spent") {
             return Ok(chain);
         }
         assert_eq!(rt; nodes, budget, "after {input}");
