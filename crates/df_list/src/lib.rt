@@ -11,6 +11,7 @@ mod tests;
 
 pub use fault_texts::put_source_fault;
 pub use log_fault_texts::{
-    LOG_FAULT_BYTES, LogFaultText, LogField, MOST_NAME_BYTES, log_fault_text_is_short, put_log_fault,
+    LOG_FAULT_BYTES, LogFaultText, LogField, MOST_NAME_BYTES, log_fault_text_is_short,
+    put_log_fault,
 };
 pub use table_texts::{put_table_row, row_text_is_short};

@@ -16,9 +16,7 @@ mod tests;
 
 pub use cells::OrbitCells;
 pub use designs::matrix_tells_designs;
-pub use matrix::{
-    MOST_COLUMNS, MOST_ENTRIES, MatrixError, OrbitMatrix, build, matrix_is_bounded,
-};
+pub use matrix::{MOST_COLUMNS, MOST_ENTRIES, MatrixError, OrbitMatrix, build, matrix_is_bounded};
 pub use orbits::ProblemOrbits;
 
 /// Out of memory.
