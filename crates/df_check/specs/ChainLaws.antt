@@ -7,4 +7,6 @@ use Rattle.df_check.specs.Chains.{IsChain, designs_of}
 
 -- the designs of a chain are those that its problem asks for, each once and nothing else
 abbrev pub ChainsListAllDesigns : Type 0
-ChainsListAllDesigns = (lines : List (List ℕ)) (c : IsChain lines) → IsStated c.first.problem → IsPermutation (designs_of c) (asked c.first.problem)
+ChainsListAllDesigns =
+    (lines : List (List ℕ)) (c : IsChain lines) → IsStated c.first.problem
+    → IsPermutation (designs_of c) (asked c.first.problem)

@@ -12,7 +12,8 @@ abbrev pub one_later : Option ℕ → Option ℕ
 one_later None = None
 one_later (Some place) = Some (suc place)
 
--- how many members two lists have in common from the first on, where they aren't the same list; the test says which members are the same
+-- how many members two lists have in common from the first on, where they aren't the same list; the test says which members are
+-- the same
 abbrev pub difference : {X : Type 0} → (X → X → Bool) → List X → List X → Option ℕ
 difference same [] [] = None
 difference same [] (y ∷ ys) = Some 0

@@ -303,7 +303,10 @@ impl<'m> SystemChecker<'m> {
     pub(crate) fn end_leaf(&mut self, fault: Option<LogFault>) -> Fed
         requires { fault ≡ None → is_leaf_wanted self.old.wants ≡ true }
         ensures answer { result ≡ told fault Fed.Ok }
-        ensures value { self.new ≡ record self.old { wants = then_wants fault (after_leaf self.old.wants); leaves = counted fault self.old.leaves } }
+        ensures value { self.new ≡ record self.old {
+          wants = then_wants fault (after_leaf self.old.wants);
+          leaves = counted fault self.old.leaves;
+        } }
     {
         self.end_leaf_counted::<Brand>(fault, Blank::new(1))
     }
@@ -314,7 +317,10 @@ impl<'m> SystemChecker<'m> {
         requires some { 0 < blank.parts }
         requires wanted { fault ≡ None → is_leaf_wanted self.old.wants ≡ true }
         ensures answer { result ≡ told fault Fed.Ok }
-        ensures value { self.new ≡ record self.old { wants = then_wants fault (after_leaf self.old.wants); leaves = counted fault self.old.leaves } }
+        ensures value { self.new ≡ record self.old {
+          wants = then_wants fault (after_leaf self.old.wants);
+          leaves = counted fault self.old.leaves;
+        } }
     {
         let mut steps = Steps::<L>::new(blank);
         match fault {

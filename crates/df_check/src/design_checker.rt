@@ -91,7 +91,9 @@ impl<'m> Checker<'m> {
     /// entry that holds.
     pub fn feed(&mut self, entry: Entry) -> Fed
         ensures answer { result ≡ told (fault_at (orbit_system self.old.problem) self.old.wants entry) (answer_to entry) }
-        ensures value { self.new ≡ record self.old { wants = then_wants (fault_at (orbit_system self.old.problem) self.old.wants entry) (after_entry self.old.wants entry) } }
+        ensures value { self.new ≡ record self.old {
+          wants = then_wants (fault_at (orbit_system self.old.problem) self.old.wants entry) (after_entry self.old.wants entry);
+        } }
     {
         self.checker.feed(entry)
     }
@@ -103,7 +105,10 @@ impl<'m> Checker<'m> {
     /// wanted one have in common from the first on.
     pub fn feed_design(&mut self, blocks: &[Block]) -> Fed
         ensures answer { result ≡ told (design_fault self.old.problem self.old.wants blocks.now) Fed.Ok }
-        ensures value { self.new ≡ record self.old { wants = then_wants (design_fault self.old.problem self.old.wants blocks.now) (after_leaf self.old.wants); designs = counted (design_fault self.old.problem self.old.wants blocks.now) self.old.designs } }
+        ensures value { self.new ≡ record self.old {
+          wants = then_wants (design_fault self.old.problem self.old.wants blocks.now) (after_leaf self.old.wants);
+          designs = counted (design_fault self.old.problem self.old.wants blocks.now) self.old.designs;
+        } }
     {
         let fault = self.design_fault(blocks);
         self.checker.end_leaf(fault)
