@@ -29,8 +29,7 @@ number_text n = ((codes " " ++ n.name) ++ codes " ") ++ signed_decimal n.value
 
 -- the line of a fault: the number of the line, the name of the fault, and its numbers
 abbrev pub log_fault_text : ℕ → Shown → List ℕ
-log_fault_text line fault =
-    (((codes "refused line " ++ decimal line) ++ codes " ") ++ fault.name) ++ flat_map number_text fault.numbers
+log_fault_text line fault = (((codes "refused line " ++ decimal line) ++ codes " ") ++ fault.name) ++ flat_map number_text fault.numbers
 
 -- no name is long
 abbrev pub is_short : List ℕ → Bool

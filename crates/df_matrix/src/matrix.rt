@@ -189,8 +189,7 @@ impl OrbitMatrix {
 /// above `df_orbits::MOST_SUMMED`, and no target above `df_lang::MOST_TARGET`.
 pub fn matrix_is_bounded(matrix: &OrbitMatrix)
     ensures columns { length (columns_of matrix.now) ≤ MOST_COLUMNS }
-    ensures entries { (row column : ℕ) → row < length (targets_of matrix.now) → column < length (columns_of matrix.now)
-        → entry (orbit_system matrix.now) row column ≤ MOST_SUMMED }
+    ensures entries { (row column : ℕ) → row < length (targets_of matrix.now) → column < length (columns_of matrix.now) → entry (orbit_system matrix.now) row column ≤ MOST_SUMMED }
     ensures targets { (row : ℕ) → row < length (targets_of matrix.now) → target (orbit_system matrix.now) row ≤ MOST_TARGET }
 {
     let _columns = matrix.kept_orbits.len();
