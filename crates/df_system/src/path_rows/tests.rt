@@ -183,21 +183,16 @@ fn assert_columns<L: Ledger>(
     let mut run: u32 = 0;
     for later in 0..plain.columns {
         let column = plain.columns - later - 1;
-        let mut over = None;
+        let mut fits = true;
         let mut barred = false;
         for row in 0..plain.rows {
             let entry = plain.entry(row, column);
             let taken = plain.taken(mask, row);
             let target = plain.target(row);
-            if entry > 0 && taken.wrapping_add(entry) > target && over.is_none() {
-                over = Some(row);
-            }
+            fits = fits && (entry == 0 || taken.wrapping_add(entry) <= target);
             barred = barred || (entry > 0 && taken >= target);
         }
-        assert_eq!(rt; rows.fits(column, steps), over.is_none());
-        if rows.first_over().is_none() {
-            assert_eq!(rt; rows.over_with(column, steps), over);
-        }
+        assert_eq!(rt; rows.fits(column, steps), fits);
         run = if barred { run.wrapping_add(1) } else { 0 };
         assert_eq!(rt; rows.run(column), run);
     }
