@@ -111,9 +111,10 @@ fn a_read_that_fails_is_told_in_place_of_all_else(rt: HostRuntime) -> Result<(),
     Ok(())
 }
 
-// A design line with such a block, twice or once.
-fn put_design(buf: &mut LineBuf, problem: &Problem, numbers: &mut Numbers) {
-    put_design_start(buf);
+// A design line with such a block, not at all, once or twice.
+fn design(problem: &Problem, numbers: &mut Numbers) -> LineBuf {
+    let mut buf = LineBuf::new();
+    put_design_start(&mut buf);
     let first = (numbers.next() % 5) as u8;
     for place in 0..numbers.next() % 3 {
         let mut block = Block::empty();
@@ -122,9 +123,10 @@ fn put_design(buf: &mut LineBuf, problem: &Problem, numbers: &mut Numbers) {
         block.insert(Point(first + 2));
         block_piece_is_short(problem, &block, place);
         if buf.len() + 29 * usize::from(block.size()) + 3 <= 1024 {
-            put_design_block(buf, problem, &block, place);
+            put_design_block(&mut buf, problem, &block, place);
         }
     }
+    buf
 }
 
 // A dossier with some lines in its log; the length of the path of its end line, and the columns of that.
@@ -141,16 +143,17 @@ fn random(
     put_path(alloc, &mut buf, numbers)?;
     text.extend_from_slice(buf.as_slice()).ok()?;
     for _ in 0..numbers.next() % 20 {
-        let mut buf = LineBuf::new();
+        text.extend_from_slice(b"\n").ok()?;
         if numbers.next() % 3 == 0 {
-            put_design(&mut buf, problem, numbers);
+            let buf = design(problem, numbers);
+            text.extend_from_slice(buf.as_slice()).ok()?;
         } else {
+            let mut buf = LineBuf::new();
             let entry = numbers.entry();
             entry_text_is_short(&entry);
             put_entry(&mut buf, entry);
+            text.extend_from_slice(buf.as_slice()).ok()?;
         }
-        text.extend_from_slice(b"\n").ok()?;
-        text.extend_from_slice(buf.as_slice()).ok()?;
     }
     let (designs, nodes) = (numbers.count(), numbers.count());
     let mut buf = LineBuf::new();
