@@ -92,10 +92,10 @@ fn follow(
 }
 
 // Compares the chains of all budgets with one run, of a head.
-fn assert_chains(
+fn assert_chains<'t>(
     rt: &(impl Abort + AllocGlobal),
-    head: &str,
-    source: &str,
+    head: &'t str,
+    source: &'t str,
     logged: bool,
     nodes: u64,
     designs: u64,
@@ -180,7 +180,8 @@ fn solve_and_then_resume(rt: HostRuntime) -> Result<(), Fail> {
         let (begun, _) = log_and_end(text).unwrap_or(("none", ""));
         for later in [1u64, 2, 3, ALL] {
             let chain = follow(&rt, text, true, later, later)?;
-            let all = joined(alloc, &[begun, chain.log.as_str()])?;
+            let mut all = joined(alloc, &[begun])?;
+            all.push_str(chain.log.as_str())?;
             assert_eq!(rt; all.as_str(), wanted, "after {first} and {later}");
             assert_eq!(rt; chain.nodes, 8 - first);
         }

@@ -22,13 +22,13 @@ pub(crate) fn joined(alloc: Global, pieces: &[&str]) -> Result<String, AllocErro
 
 // Runs the words over a dossier of each head, in pieces of three lengths, and compares the exit status and the text, which has
 // the same head and source lines.
-fn assert_goes_on(
+fn assert_goes_on<'t>(
     rt: &(impl Abort + AllocGlobal),
     words: &[&str],
-    source: &str,
-    log: &str,
+    source: &'t str,
+    log: &'t str,
     code: u8,
-    wanted: &str,
+    wanted: &'t str,
 ) -> Result<(), Fail> {
     for head in ["dossier 1\n", "dossier 2\n"] {
         let input = joined(rt.alloc(), &[head, source, log])?;
