@@ -26,7 +26,7 @@ fn told(read: Result<Spent, SpentError>) -> Answer {
     }
 }
 
-// What the source says.
+/// What the source says, read to its end or to a read that fails.
 pub fn from_source(alloc: Global, source: &mut MemSource) -> Answer {
     match read_spent_stream(alloc, source) {
         Ok(spent) => told(Ok(spent)),
@@ -36,7 +36,7 @@ pub fn from_source(alloc: Global, source: &mut MemSource) -> Answer {
     }
 }
 
-// A source of the text in such pieces, of which these reads fail.
+/// A source of the text in pieces of this many bytes, of which these reads fail, the first 8 of them. `None`: no memory.
 pub fn in_pieces(alloc: Global, text: &[u8], piece: usize, fails: &[u64]) -> Option<MemSource>
     requires { 1 ≤ piece }
 {
@@ -51,7 +51,7 @@ pub fn in_pieces(alloc: Global, text: &[u8], piece: usize, fails: &[u64]) -> Opt
     Some(MemSource::new(bytes, piece, calls))
 }
 
-// What the text says in every way.
+/// What the text says in every way; `Differs` where two ways differ, and `TooLong` above 10,000,000 bytes.
 pub fn anyhow(alloc: Global, text: &[u8]) -> Answer {
     if text.len() > 10_000_000 {
         return Answer::TooLong;

@@ -12,6 +12,7 @@ pub struct Numbers {
 }
 
 impl Numbers {
+    /// The next number, of 64 bits.
     pub fn next(&mut self) -> u64 {
         self.state = self
             .state
@@ -25,7 +26,7 @@ impl Numbers {
         (self.next() % 4294967296) as u32 >> (self.next() % 32) as u32
     }
 
-    // A count of 64 bits, of few digits or of many.
+    /// A count of 64 bits, of few digits or of many.
     pub fn count(&mut self) -> u64 {
         self.next() >> (self.next() % 64) as u32
     }
@@ -50,6 +51,7 @@ impl Numbers {
         rows
     }
 
+    /// An entry of any kind.
     pub fn entry(&mut self) -> Entry {
         match self.next() % 6 {
             0 => Entry::Branch(self.place()),
@@ -120,7 +122,7 @@ fn entries_are_written_and_read(rt: HostRuntime) {
     ends_are_read_back();
 }
 
-// A path behind what the buffer holds; its length, and its columns.
+/// A path behind what the buffer holds; its length, and its columns. `None` where it has no room or there is no memory.
 pub fn put_path(
     alloc: Global,
     buf: &mut LineBuf,
