@@ -45,6 +45,7 @@ pub use put::{
     put_branch, put_design_block, put_design_start, put_end, put_entry, put_over, put_path_column,
     put_path_start, put_residue, put_settled, put_under,
 };
+pub use source_text::SourceText;
 pub use spent::{Spent, SpentError, read_spent};
 pub use stream::{StreamError, read_spent_stream};
 
