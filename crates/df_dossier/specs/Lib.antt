@@ -5,6 +5,7 @@ pub mod Designs
 pub mod DesignSteps
 pub mod Reads
 pub mod Judging
+pub mod QuickEntries
 pub mod RoundTrips
 pub mod DesignsBack
 pub mod Dossiers
@@ -16,4 +17,5 @@ pub mod RunPaths
 pub mod SpentStreams
 pub mod Pieces
 pub mod DossierPieces
+pub mod DossiersBack
 pub mod SpentRules
