@@ -18,6 +18,7 @@ pub mod TextsBack
 pub mod DossiersBack
 pub mod RunPaths
 pub mod PutPlaces
+pub mod StreamReads
 pub mod StreamSteps
 pub mod PieceSteps
 pub mod DossierSteps

@@ -116,3 +116,13 @@ end_judged (awaits.Nothing f) = bad f
 abbrev pub next_of : Awaits → Option Judged → Awaits
 next_of now None = now
 next_of now (Some j) = j.next
+
+-- a `from` line is awaited: the source lines before it are whole
+abbrev pub awaits_from : Awaits → Bool
+awaits_from awaits.First = false
+awaits_from (awaits.Count rules) = false
+awaits_from (awaits.Source rules n) = false
+awaits_from (awaits.From rules) = true
+awaits_from (awaits.Log rules) = false
+awaits_from awaits.Next = false
+awaits_from (awaits.Nothing f) = false

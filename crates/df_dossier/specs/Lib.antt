@@ -14,6 +14,7 @@ pub mod Spent
 pub mod DossierTexts
 pub mod TextsBack
 pub mod RunPaths
+pub mod StreamReads
 pub mod SpentStreams
 pub mod Pieces
 pub mod DossierPieces

@@ -1,7 +1,7 @@
 // The lines of dossiers in their order: what each is, and the first that breaks a rule.
 ghost use Rattle.std.specs.Prelude.{◌≡◌, ◌≤◌, ◌∷◌, option_map, IfSome};
 ghost use Rattle.df_io.specs.Lines.{left, tokens_of};
-ghost use Rattle.df_dossier.specs.Judging.{bad as bad_is, rules_named as rules_of, head_of, count_of, after_source as after_is, end_of, named_count as named_count_of, line_judged, end_judged, next_of, tokens_judged};
+ghost use Rattle.df_dossier.specs.Judging.{awaits_from, bad as bad_is, rules_named as rules_of, head_of, count_of, after_source as after_is, end_of, named_count as named_count_of, line_judged, end_judged, next_of, tokens_judged};
 
 use crate::entries::read_entry;
 use crate::numbers::{MOST_COUNT, number_within};
@@ -110,6 +110,13 @@ impl LineJudge {
         let judged = judge(self.awaits, line)?;
         self.awaits = judged.next;
         Some(judged.piece)
+    }
+
+    /// Whether the source lines of a dossier are whole, and its `from` line is awaited.
+    pub fn is_source_whole(&self) -> bool
+        ensures { result ≡ awaits_from self.now.awaits }
+    {
+        matches!(self.awaits, Awaits::From(_))
     }
 
     /// What the end of the input is: `Done` after a whole dossier, and else `Bad`.

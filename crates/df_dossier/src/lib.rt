@@ -6,8 +6,9 @@
 //! one that ended spent by `read_spent`, or from a source by `read_spent_stream`; they keep source lines
 //! in a `SourceText`. Clauses cite `specs/Entries`, `specs/Paths`, `specs/Designs`, `specs/Judging`,
 //! `specs/Sources`, `specs/Pieces`, `specs/Dossiers`, `specs/DossierPieces`, `specs/DossiersBack`,
-//! `specs/Spent` and `specs/SpentStreams`. That what is written is read back are the laws
-//! `.._read_back`.
+//! `specs/Spent`, `specs/StreamReads` and `specs/SpentStreams`. That what is written is read back are the
+//! laws `.._read_back`.
+//! Laws for the rooms above: proofs/PathTests, proofs/SourceTexts, proofs/StreamReads.
 #![tactic(auto)]
 
 mod designs;

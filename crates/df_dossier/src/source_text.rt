@@ -1,11 +1,10 @@
 // The source lines of a dossier, kept as one text.
-ghost use Rattle.std.specs.Prelude.{◌≡◌, ◌≤◌, [], ◌∷◌, ◌++◌, length, drop, option_map, IfOk, IfSome};
+ghost use Rattle.std.specs.Prelude.{◌≡◌, [], ◌∷◌, ◌++◌, IfOk};
 ghost use Rattle.df_io.specs.Lines.{lines_of};
 ghost use Rattle.df_io.specs.Joined.{Lacks, is_line_feed, text_of};
-ghost use Rattle.df_dossier.specs.Sources.{ParsesLines, after_first};
+ghost use Rattle.df_dossier.specs.Sources.{ParsesLines};
 
 use crate::OutOfMemory;
-use df_io::Lines;
 use df_lang::{ParseError, Problem, parse};
 use std::alloc::Global;
 use std::marker::Model;
@@ -57,24 +56,6 @@ impl SourceText {
         ensures lines { lines_of result.now ≡ self.now }
     {
         &self.bytes
-    }
-
-    /// The place behind the line that begins at a place of the text, from 0, where it is this line. `None` exactly where it
-    /// is another one, and at the end of the text.
-    pub fn after_line(&self, place: usize, line: &[u8]) -> Option<usize>
-        requires { place ≤ length (text_of self.now) }
-        ensures within { IfSome result (λ after. after ≤ length (text_of self.now)) }
-        ensures line { option_map (λ after. lines_of (drop after (text_of self.now))) result
-            ≡ after_first line.now (lines_of (drop place (text_of self.now))) }
-    {
-        let rest = &self.bytes[place..];
-        let first = Lines::new(rest).next()?;
-        let end = (first.end + 1).min(rest.len());
-        if &rest[first.start..first.end] == line {
-            Some(place + end)
-        } else {
-            None
-        }
     }
 
     /// What the lines state.

@@ -2,7 +2,8 @@ use Rattle.std.proofs.Common.{◌≡◌, ◌+◌, [], Ok, Err, Some, sym, ap, su
 use Rattle.df_dossier.specs.declared.spent.SpentError.TheVariants as spent_error
 use Rattle.df_dossier.specs.Spent.{spent, rest_from, StandsAt, GivesSpent, GoesOn}
 use Rattle.df_dossier.specs.SpentStreams.{ReadsSpent}
-use Rattle.df_dossier.proofs.StreamSteps.{end_says, stops, ends, end_refused, refused_as, passes, read_more, says_more, refuses, no_memory, text_more}
+use Rattle.df_dossier.proofs.StreamReads.{stops, ends, passes, read_more, no_memory, text_more}
+use Rattle.df_dossier.proofs.StreamSteps.{end_says, stopped_early, end_refused, refused_as, says_more, refuses}
 use Rattle.df_dossier.proofs.stream.read_spent_stream.Goals.{in-Ok, in-Err-end, in-Ok-rest, in-Err-rest}
 use Rattle.df_dossier.proofs.stream.read_spent_stream.Goals as goal
 
@@ -36,7 +37,8 @@ returns-in-Err-clause-given g c =
     let faults = g.S.Source.faults in
     let first = c.args.input.now in
     subst (λ r. ReadsSpent (left first) (left n.new.input) (faults first) (faults n.new.input) (Err r)) (sym c.stopped.ensures)
-    (stops left faults first l.input n.new.input l.reading n.new.self l.invariant.0 l.invariant.1 n.ensures.reads c.keeps_limits.ensures c.in-Err.error c.in-Err.ensures.refused)
+    (stopped_early (left first) (left n.new.input) (faults first) (faults n.new.input) c.in-Err.error
+    (stops left faults first l.input n.new.input l.reading n.new.self l.invariant.0 l.invariant.1 n.ensures.reads c.keeps_limits.ensures c.in-Err.error c.in-Err.ensures.refused))
 
 -- a line more
 pub loop-stage-preserved : goal.loop-stage-preserved
@@ -88,5 +90,6 @@ returns-in-Err-Refused-clause-given g c =
           (refuses left faults first l.input n.new.input l.reading n.new.self l.invariant.0 l.invariant.1 n.ensures.reads next l.stage e.line e.fault l.invariant.2 goes)))
       | in-Err-rest w ↦ subst (ReadsSpent (left first) (left f.new.input) (faults first) (faults f.new.input)) (sym w.result-is)
           (subst (λ r. ReadsSpent (left first) (left f.new.input) (faults first) (faults f.new.input) (Err r)) (sym w.stopped-in-Err-rest.ensures)
-          (stops left faults first n.new.input f.new.input n.new.self f.new.self text read f.ensures.reads c.keeps_limits-in-Err-Refused.ensures w.in-Err-rest.error (f.ensures.ended ∙ ap Some w.in-Err-rest.is)))
+          (stopped_early (left first) (left f.new.input) (faults first) (faults f.new.input) w.in-Err-rest.error
+          (stops left faults first n.new.input f.new.input n.new.self f.new.self text read f.ensures.reads c.keeps_limits-in-Err-Refused.ensures w.in-Err-rest.error (f.ensures.ended ∙ ap Some w.in-Err-rest.is))))
     ]

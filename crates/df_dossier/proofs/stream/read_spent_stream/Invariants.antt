@@ -1,6 +1,7 @@
 use Rattle.std.proofs.Common.{◌+◌, ◌-◌, ℕ, List}
 use Rattle.df_io.specs.declared.bytes.TheConstants.{MOST_BYTES}
-use Rattle.df_dossier.proofs.StreamSteps.{IsRead, Says}
+use Rattle.df_dossier.specs.StreamReads.{IsRead}
+use Rattle.df_dossier.proofs.StreamSteps.{Says}
 use Rattle.df_dossier.proofs.stream.read_spent_stream.Given as goal
 
 -- some text was handed out, and what the lines to come say is what is meant of all bytes
