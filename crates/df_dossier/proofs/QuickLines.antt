@@ -1,5 +1,6 @@
 -- Lines of one word and one number, read at a glance.
 use Rattle.std.proofs.Common.{◌≡◌, ℕ, Bool, true, false, ◌&&◌, nat_lt, List, [], ◌∷◌, ◌++◌, length, Some, None, option_map, codes, refl, ap, ◌∙◌, arith, tests}
+use Rattle.std.proofs.lemmas.Bool.{and_parts}
 use Rattle.std.specs.List.{list_all}
 use Rattle.std.specs.Char.{is_ascii_digit}
 use Rattle.std.specs.Str.{all_ascii_digits}
@@ -21,19 +22,14 @@ use Rattle.df_dossier.proofs.NumbersRead.{is_inked, word_token}
 digit_inked : (b : ℕ) → is_ascii_digit b ≡ true → is_inked b ≡ true
 digit_inked b is = grind (arith, tests)
 
-both : (x y : Bool) → (x && y) ≡ true → (x ≡ true) × (y ≡ true)
-both true true is = (refl, refl)
-both true false is = absurd (cc)
-both false y is = absurd (cc)
-
 digits_inked : (bs : List ℕ) → all_ascii_digits bs ≡ true → list_all is_inked bs ≡ true
 digits_inked [] is = refl
 digits_inked (b ∷ bs) is =
-    let parts = both (is_ascii_digit b) (all_ascii_digits bs) is in rw (digit_inked b parts.0, digits_inked bs parts.1) refl
+    let parts = and_parts (is_ascii_digit b) (all_ascii_digits bs) is in rw (digit_inked b parts.0, digits_inked bs parts.1) refl
 
 numeral_token : (token : List ℕ) → is_numeral token ≡ true → IsToken token
 numeral_token [] is = absurd (cc)
-numeral_token (b ∷ bs) is = word_token (b ∷ bs) (omega arith) (digits_inked (b ∷ bs) (both (nat_lt 0 (length (b ∷ bs))) (all_ascii_digits (b ∷ bs)) is).1)
+numeral_token (b ∷ bs) is = word_token (b ∷ bs) (omega arith) (digits_inked (b ∷ bs) (and_parts (nat_lt 0 (length (b ∷ bs))) (all_ascii_digits (b ∷ bs)) is).1)
 
 place_token : (token : List ℕ) (n : ℕ) → place_of token ≡ Some n → IsToken token
 place_token token n is = by_test (is_numeral token) refl where
