@@ -1,9 +1,9 @@
 -- Lines of one word and one number, read at a glance.
 use Rattle.std.proofs.Common.{◌≡◌, ℕ, Bool, true, false, nat_lt, List, [], ◌∷◌, ◌++◌, length, Some, None, option_map, codes, refl, ap, ◌∙◌, arith, tests}
-use Rattle.std.proofs.lemmas.Bool.{and_parts}
 use Rattle.std.specs.List.{list_all}
 use Rattle.std.specs.Char.{is_ascii_digit}
 use Rattle.std.specs.Str.{all_ascii_digits}
+use Rattle.std.specs.Cmp.{first_so, second_so}
 use Rattle.df_io.specs.Lines.{tokens_of}
 use Rattle.df_io.specs.Joined.{IsToken}
 use Rattle.df_io.specs.Number.{is_numeral}
@@ -25,11 +25,11 @@ digit_inked b is = grind (arith, tests)
 digits_inked : (bs : List ℕ) → all_ascii_digits bs ≡ true → list_all is_inked bs ≡ true
 digits_inked [] is = refl
 digits_inked (b ∷ bs) is =
-    let parts = and_parts (is_ascii_digit b) (all_ascii_digits bs) is in rw (digit_inked b parts.0, digits_inked bs parts.1) refl
+    rw (digit_inked b (first_so (is_ascii_digit b) (all_ascii_digits bs) is), digits_inked bs (second_so (is_ascii_digit b) (all_ascii_digits bs) is)) refl
 
 numeral_token : (token : List ℕ) → is_numeral token ≡ true → IsToken token
 numeral_token [] is = absurd (cc)
-numeral_token (b ∷ bs) is = word_token (b ∷ bs) (omega arith) (digits_inked (b ∷ bs) (and_parts (nat_lt 0 (length (b ∷ bs))) (all_ascii_digits (b ∷ bs)) is).1)
+numeral_token (b ∷ bs) is = word_token (b ∷ bs) (omega arith) (digits_inked (b ∷ bs) (second_so (nat_lt 0 (length (b ∷ bs))) (all_ascii_digits (b ∷ bs)) is))
 
 place_token : (token : List ℕ) (n : ℕ) → place_of token ≡ Some n → IsToken token
 place_token token n is = by_test (is_numeral token) refl where

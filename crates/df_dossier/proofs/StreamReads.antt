@@ -69,6 +69,15 @@ module _ {S : Type 0} (left : S → Option (List ℕ)) (faults : S → ℕ) wher
     last = λ some. absurd (cc);
   })
 
+  -- what was taken so far keeps to the limit
+  pub read_at_most : (first : S) (s : Stream) (input : S) (text : List ℕ) → IsRead left faults first s input text → IsStream s → ConsumesAtMost (left first) (left input) MOST_BYTES
+  read_at_most first s input text is keeps =
+      let few = keeps.short (not_long s.ended (λ some. (is.last some).ended)) in (
+        text ++ (s.ahead ++ []),
+        Consumes-trans _ _ _ _ _ is.given (ahead_taken s.ahead (left input) (left input) [] (Consumes-nil (left input))),
+        omega (arith, is.counted, is.limit, few, length-append text (s.ahead ++ []), length-append s.ahead []),
+      )
+
   module _ (first i j : S) (old new : Stream) (text : List ℕ) (is : IsRead left faults first old i text) (reads : Reads left faults old new i j) where
     abbrev bytes : List ℕ
     bytes = text ++ (old.ahead ++ reads.takes.bytes)
@@ -169,9 +178,4 @@ module _ {S : Type 0} (left : S → Option (List ℕ)) (faults : S → ℕ) wher
 
       -- no memory was left for what the line says
       pub no_memory : IsStream new → ConsumesAtMost (left first) (left j) MOST_BYTES
-      no_memory keeps =
-          let few = keeps.short (not_long new.ended (λ some. (next.whole some).ended)) in (
-            text_more ++ (new.ahead ++ []),
-            Consumes-trans _ _ _ _ _ read_more.given (ahead_taken new.ahead (left j) (left j) [] (Consumes-nil (left j))),
-            omega (arith, read_more.counted, read_more.limit, few, length-append text_more (new.ahead ++ []), length-append new.ahead []),
-          )
+      no_memory keeps = read_at_most first new j text_more read_more keeps

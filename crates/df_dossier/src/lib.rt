@@ -63,6 +63,8 @@ mod prefix_tests;
 #[cfg(test)]
 mod round_tests;
 #[cfg(test)]
+mod source_tests;
+#[cfg(test)]
 mod stream_tests;
 #[cfg(test)]
 mod tests;
