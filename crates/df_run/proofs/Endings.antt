@@ -22,7 +22,7 @@ replied {r = Ok x} status is written = inl (is, written.all)
 replied {r = Err e} status is written = inr (is, written.fault, written.prefix)
 
 -- the status of a run's end is that of its stop
-stop_is : (stop : Option (List Bool)) → ran_status (Ok (run_end stop)) ≡ stop_status stop
+pub stop_is : (stop : Option (List Bool)) → ran_status (Ok (run_end stop)) ≡ stop_status stop
 stop_is None = refl
 stop_is (Some q) = refl
 

@@ -17,8 +17,9 @@ use Rattle.df_tell.specs.Verdict.{verdict_text}
 use Rattle.df_words.specs.CommandLines.{IsCommandLine}
 use Rattle.df_words.specs.declared.command.Command.{Command}
 use Rattle.df_words.specs.declared.command.Command.TheVariants as commands
-use Rattle.df_words.specs.Reading.{command_of, CommandLineLaw}
+use Rattle.df_words.specs.Reading.{command_of, CommandLineLaw, WorkloadLaw}
 use Rattle.df_words.specs.declared.command.Options.{Options}
+use Rattle.df_words.specs.declared.table.TheConstants.{DEFAULT_BUDGET, MOST_WORKLOAD}
 use Rattle.df_lang.specs.RulesLaw.{SourcesKeepTheirRules}
 use Rattle.df_walk.specs.declared.Rules.TheVariants.{Divisor}
 use Rattle.df_walk.specs.Systems.{IsSystem}
@@ -37,19 +38,22 @@ use Rattle.df_dossier.specs.SpentRules.{SpentKeepTheirRules}
 use Rattle.df_dossier.specs.declared.spent.Spent.{Spent}
 use Rattle.df_tell.specs.declared.limits.Limit.{Limit}
 use Rattle.df_tell.specs.declared.path.PathRefusal.{PathRefusal}
-use Rattle.df_run.specs.declared.tasks.Task.TheVariants.{Source, Stream}
-use Rattle.df_run.specs.Answers.{Answer, answer_to, answer_spent, verdict_answer, within, at_node, run_answer, search_answer}
+use Rattle.df_run.specs.declared.tasks.Task.TheVariants.{Source, Stream, Work}
+use Rattle.df_run.specs.Answers.{Answer, answer_to, answer_spent, answer_work, verdict_answer, within, at_node, run_answer, search_answer}
 use Rattle.df_run.specs.Limits.{matrix_limit, path_refusal}
-use Rattle.df_run.specs.Endings.{EndsAs, Answers}
-use Rattle.df_run.specs.Headline.{Headline, IsAccepted, IsRefused, IsFinished, IsStopped, IsSolved, IsSpent, IsResumed, IsResumedSpent}
+use Rattle.df_run.specs.Endings.{EndsAs, Answers, IsUnreadByWork}
+use Rattle.df_run.specs.Headline.{Headline, IsAccepted, IsRefused, IsFinished, IsStopped, IsSolved, IsSpent, IsResumed, IsResumedSpent, IsWorked, IsWorkedSpent}
 use Rattle.df_run.specs.Streams.{Incoming, Outgoing}
 use Rattle.df_run.specs.Tasks.{task_of}
+use Rattle.df_run.specs.Readings.{IsUnread, LeavesInput}
+use Rattle.df_run.specs.Workloads.{workload_source}
 use Rattle.df_run.specs.declared.statuses.Status.{Status}
 use Rattle.df_run.specs.declared.statuses.Status.TheVariants as ends
 use Rattle.df_run.specs.declared.tasks.SourceTask.TheVariants.{Verify, Solve}
 use Rattle.df_run.specs.declared.tasks.StreamTask.TheVariants.{Resume}
 use Rattle.df_run.proofs.PathRefusals.{no_refusal}
 use Rattle.df_run.proofs.SearchRuns.{at_start, designs_all, finishes, stops}
+use Rattle.df_run.proofs.Workloads.{works, works_spent, source_short}
 
 -- the first that passes is a member, and passes
 found_in : {X : Type 0} (t : X → Bool) (xs : List X) (x : X) → find t xs ≡ Some x → In xs x × (t x ≡ true)
@@ -133,7 +137,7 @@ module _ (options : Options) (o : Outgoing) where
     stays_spent bytes is None (Some refusal) fits status text = absurd (cc)
     stays_spent bytes is (Some limit) refusal fits status text = absurd (cc)
 
-module _ (keep : SourcesKeepTheirRules) (keep_spent : SpentKeepTheirRules) (lines : CommandLineLaw) (balance : BalanceLaw) (verdict : VerdictLaw) (systems : OrbitSystemsAreSystems) (runs : RunsAreWhole) (reasons : PathsHaveReasons) (theorem : DesignsAreSolutions) (i : Incoming) (o : Outgoing) where
+module _ (keep : SourcesKeepTheirRules) (keep_spent : SpentKeepTheirRules) (lines : CommandLineLaw) (numbers : WorkloadLaw) (balance : BalanceLaw) (verdict : VerdictLaw) (systems : OrbitSystemsAreSystems) (runs : RunsAreWhole) (reasons : PathsHaveReasons) (theorem : DesignsAreSolutions) (i : Incoming) (o : Outgoing) where
   -- what `verify` answers to these bytes
   done_with : (bytes : List ℕ) → length bytes ≤ MOST_BYTES → (r : Result Stated SourceError) → source bytes ≡ r → ends.Done ≡ (answer_to Verify r).status → Appends o.written o.written_after (answer_to Verify r).text → IsAccepted o bytes
   done_with bytes few (Ok s) is status text = accepts balance verdict s (keep bytes s few is) bytes o is (find is_wrong (table s)) refl status text
@@ -168,6 +172,19 @@ module _ (keep : SourcesKeepTheirRules) (keep_spent : SpentKeepTheirRules) (line
   stays_with options bytes few (Ok d) is status text = stays_spent options o runs reasons d (systems d.problem (keep_spent bytes d few is)) bytes is (matrix_limit d.problem) _ refl status text
   stays_with options bytes few (Err e) is status text = absurd (cc)
 
+  -- what a workload answers
+  worked_with : (n : ℕ) → n ≤ MOST_WORKLOAD → (r : Result Stated SourceError) → source (workload_source n) ≡ r → ends.Done ≡ (answer_work n r).status → Appends o.written o.written_after (answer_work n r).text → IsWorked n o
+  worked_with n few (Ok s) is status text =
+      let rules = keep (workload_source n) s (source_short n few) is in
+      works theorem n o s rules is _ (whole_run s rules DEFAULT_BUDGET) (matrix_limit s) status text
+  worked_with n few (Err e) is status text = absurd (cc)
+
+  worked_spent_with : (n : ℕ) → n ≤ MOST_WORKLOAD → (r : Result Stated SourceError) → source (workload_source n) ≡ r → ends.Spent ≡ (answer_work n r).status → Appends o.written o.written_after (answer_work n r).text → IsWorkedSpent n o
+  worked_spent_with n few (Ok s) is status text =
+      let rules = keep (workload_source n) s (source_short n few) is in
+      works_spent theorem n o s rules is _ (whole_run s rules DEFAULT_BUDGET) (matrix_limit s) status text
+  worked_spent_with n few (Err e) is status text = absurd (cc)
+
   -- where the words ask for a command, how the run ends is how its task does
   asks : (words : List (List ℕ)) (result : Status) (command : Command) → EndsAs words i o result → IsCommandLine words command → (result ≡ ends.Usage → ⊥) → (result ≡ ends.WriteFault → ⊥) → Answers (task_of command) i o result
   asks words result command (inl usage) line no_usage no_fault = ⊎_elim (λ told. absurd (no_usage told.0)) (λ stopped. absurd (no_fault stopped.0)) usage.reply
@@ -197,4 +214,15 @@ module _ (keep : SourcesKeepTheirRules) (keep_spent : SpentKeepTheirRules) (line
     resumed_spent = λ options line stops.
         let answers = subst (λ r. Answers (Stream (Resume options)) i o r) stops (asks words result (commands.Resume options) ended line (λ usage. absurd (cc)) (λ fault. absurd (cc))) in
         IfSome_then i.left answers.1.1 (λ bytes read. stays_with options bytes (omega (arith, read.0)) (spent bytes) refl read.1.0 read.1.1);
+    worked = λ n line done.
+        let answers = subst (λ r. Answers (Work n) i o r) done (asks words result (commands.Workload n) ended line (λ usage. absurd (cc)) (λ fault. absurd (cc))) in
+        worked_with n (numbers words n line).1 (source (workload_source n)) refl answers.1.0 answers.1.1;
+    worked_spent = λ n line stops.
+        let answers = subst (λ r. Answers (Work n) i o r) stops (asks words result (commands.Workload n) ended line (λ usage. absurd (cc)) (λ fault. absurd (cc))) in
+        worked_spent_with n (numbers words n line).1 (source (workload_source n)) refl answers.1.1.0 answers.1.1.1;
   }
+
+-- and a workload reads nothing
+pub unread_by_work : CommandLineLaw → (words : List (List ℕ)) (i : Incoming) (o : Outgoing) (result : Status) → EndsAs words i o result → IsUnreadByWork words i
+unread_by_work lines words i o result (inl usage) = λ n line. usage.unread
+unread_by_work lines words i o result (inr task) = λ n line. subst (λ c. LeavesInput (task_of c) i) (one_command lines words task.command (commands.Workload n) task.words_are line) task.unread

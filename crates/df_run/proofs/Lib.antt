@@ -2,6 +2,7 @@ pub mod Endings
 pub mod PathRefusals
 pub mod StreamEndings
 pub mod SearchRuns
+pub mod Workloads
 pub mod Headline
 pub mod EntryLimits
 pub mod BlockLimits

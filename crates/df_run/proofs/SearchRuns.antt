@@ -38,20 +38,20 @@ module _ (rules : Rules) (s : Stated) (p : List Bool) (n : ℕ) (run : Run) (who
   rests stop is = ap (λ o. solutions_in (orbit_system s) run.taken ++ rest_at (orbit_system s) o) (sym is) ∙ whole.solutions
 
   -- to its end: all designs, all nodes, and all paid
-  finished_designs : run.stop ≡ None → designs_in s run.taken ≡ designs_from s p
+  pub finished_designs : run.stop ≡ None → designs_in s run.taken ≡ designs_from s p
   finished_designs is = ap (map (design s)) (sym (append-nil (solutions_in (orbit_system s) run.taken)) ∙ rests None is)
 
-  finished_end : run.stop ≡ None → (length (nodes_in run.taken) ≡ nodes_from rules s p) × (nodes_from rules s p ≤ n)
+  pub finished_end : run.stop ≡ None → (length (nodes_in run.taken) ≡ nodes_from rules s p) × (nodes_from rules s p ≤ n)
   finished_end is = subst (EndsAt rules (orbit_system s) p n (length (nodes_in run.taken))) is whole.end
 
   -- to a stop: what was printed, and what stands at the place
-  stopped_designs : (q : List Bool) → run.stop ≡ Some q → designs_in s run.taken ++ designs_from s q ≡ designs_from s p
+  pub stopped_designs : (q : List Bool) → run.stop ≡ Some q → designs_in s run.taken ++ designs_from s q ≡ designs_from s p
   stopped_designs q is = sym (map-append (design s) (solutions_in (orbit_system s) run.taken) (rest (orbit_system s) q)) ∙ ap (map (design s)) (rests (Some q) is)
 
-  stopped_end : (q : List Bool) → run.stop ≡ Some q → (length (nodes_in run.taken) ≡ n) × (n < nodes_from rules s p) × IsNode rules (orbit_system s) q
+  pub stopped_end : (q : List Bool) → run.stop ≡ Some q → (length (nodes_in run.taken) ≡ n) × (n < nodes_from rules s p) × IsNode rules (orbit_system s) q
   stopped_end q is = let end = subst (EndsAt rules (orbit_system s) p n (length (nodes_in run.taken))) is whole.end in (end.0, end.1, end.2)
 
-  stopped_nodes : (q : List Bool) → run.stop ≡ Some q → n + nodes_from rules s q ≡ nodes_from rules s p
+  pub stopped_nodes : (q : List Bool) → run.stop ≡ Some q → n + nodes_from rules s q ≡ nodes_from rules s p
   stopped_nodes q is = ap (λ m. m + nodes_from rules s q) (sym (stopped_end q is).0) ∙ ap (λ o. length (nodes_in run.taken) + load_at rules (orbit_system s) o) (sym is) ∙ whole.nodes
 
   -- and without a log the text has the designs alone

@@ -24,15 +24,18 @@ use Rattle.df_tell.specs.Refusal.{refusal_text}
 use Rattle.df_tell.specs.Dossier.{dossier_text}
 use Rattle.df_tell.specs.Path.{path_refusal_text}
 use Rattle.df_tell.specs.Limits.{limit_text}
+use Rattle.df_tell.specs.Workload.{workload_text}
 use Rattle.df_tell.specs.declared.limits.Limit.{Limit}
 use Rattle.df_tell.specs.declared.path.PathRefusal.{PathRefusal}
 use Rattle.df_tell.specs.declared.run.Shown.{Shown}
 use Rattle.df_words.specs.declared.command.Options.{Options}
+use Rattle.df_words.specs.declared.table.TheConstants.{DEFAULT_BUDGET}
 use Rattle.df_run.specs.Limits.{subsets_limit, matrix_limit, path_refusal}
+use Rattle.df_run.specs.Workloads.{workload_source}
 use Rattle.df_run.specs.declared.statuses.Status.{Status}
 use Rattle.df_run.specs.declared.statuses.Status.TheVariants as ends
 use Rattle.df_run.specs.declared.tasks.Task.{Task}
-use Rattle.df_run.specs.declared.tasks.Task.TheVariants.{Source, Stream}
+use Rattle.df_run.specs.declared.tasks.Task.TheVariants.{Source, Stream, Work}
 use Rattle.df_run.specs.declared.tasks.SourceTask.{SourceTask}
 use Rattle.df_run.specs.declared.tasks.SourceTask.TheVariants.{Show, Table, Verify, Orbits, Matrix, Solve}
 use Rattle.df_run.specs.declared.tasks.StreamTask.{StreamTask}
@@ -109,7 +112,20 @@ answer_spent options (Err e) = bad_input (dossier_text e)
 abbrev pub answer_stream : StreamTask → List ℕ → Answer
 answer_stream (Resume options) bytes = answer_spent options (spent bytes)
 
--- what a task answers to these bytes
+-- the run of a workload's search
+abbrev pub work_answer : ℕ → Stated → Run → Answer
+work_answer n s run = record { status = stop_status run.stop; text = workload_text n s run }
+
+-- what a workload answers with its problem: `solve` would search so, with the default budget
+abbrev pub answer_worked : ℕ → Stated → Answer
+answer_worked n s = within (matrix_limit s) (work_answer n s (run_of Divisor (orbit_system s) [] DEFAULT_BUDGET))
+
+abbrev pub answer_work : ℕ → Result Stated SourceError → Answer
+answer_work n (Ok s) = answer_worked n s
+answer_work n (Err e) = bad_input (refusal_text e)
+
+-- what a task answers to these bytes; a workload has a source of its own
 abbrev pub answer : Task → List ℕ → Answer
 answer (Source task) bytes = answer_to task (source bytes)
 answer (Stream task) bytes = answer_stream task bytes
+answer (Work n) bytes = answer_work n (source (workload_source n))

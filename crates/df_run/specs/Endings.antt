@@ -4,15 +4,16 @@ use Rattle.std.specs.Io.KnownBytes.{Appends, Keeps}
 use Rattle.df_io.specs.Causes.{Rose, AppendsPrefix}
 use Rattle.df_words.specs.CommandLines.{IsCommandLine, IsFirstFault}
 use Rattle.df_words.specs.declared.command.Command.{Command}
+use Rattle.df_words.specs.declared.command.Command.TheVariants.{Workload}
 use Rattle.df_tell.specs.Usage.{usage_text}
 use Rattle.df_run.specs.Answers.{Answer, answer}
-use Rattle.df_run.specs.Readings.{OfInput, FailsToRead, IsTooLong}
+use Rattle.df_run.specs.Readings.{IsUnread, LeavesInput, OfInput, FailsToRead, IsTooLong}
 use Rattle.df_run.specs.Streams.{Incoming, Outgoing}
 use Rattle.df_run.specs.Tasks.{task_of}
 use Rattle.df_run.specs.declared.statuses.Status.{Status}
 use Rattle.df_run.specs.declared.statuses.Status.TheVariants as ends
 use Rattle.df_run.specs.declared.tasks.Task.{Task}
-use Rattle.df_run.specs.declared.tasks.Task.TheVariants.{Source, Stream}
+use Rattle.df_run.specs.declared.tasks.Task.TheVariants.{Source, Stream, Work}
 use Rattle.df_run.specs.declared.tasks.SourceTask.TheVariants.{Show, Table, Verify, Orbits, Matrix, Solve}
 use Rattle.df_run.specs.declared.tasks.StreamTask.TheVariants.{Resume}
 
@@ -39,6 +40,7 @@ HasBudget (Source Orbits) = ⊥
 HasBudget (Source Matrix) = ⊥
 HasBudget (Source (Solve options)) = Unit {0}
 HasBudget (Stream (Resume options)) = Unit {0}
+HasBudget (Work n) = Unit {0}
 
 -- when a task ends with each status, and what was then read and written
 abbrev pub Answers : Task → Incoming → Outgoing → Status → Type 0
@@ -56,7 +58,7 @@ Answers task i o ends.TooLong = IsTooLong task i × Keeps o.written o.written_af
 pub record IsUsage (words : List (List ℕ)) (i : Incoming) (o : Outgoing) (result : Status) : Type 0 where
   pub fault : ℕ
   pub first : IsFirstFault words fault
-  pub unread : i.left_after ≡ i.left
+  pub unread : IsUnread i
   pub reply : Replies record { status = ends.Usage; text = usage_text fault } o result
 
 -- the words are a command, and its task is answered
@@ -64,6 +66,11 @@ pub record IsTask (words : List (List ℕ)) (i : Incoming) (o : Outgoing) (resul
   pub command : Command
   pub words_are : IsCommandLine words command
   pub answers : Answers (task_of command) i o result
+  pub unread : LeavesInput (task_of command) i
 
 abbrev pub EndsAs : List (List ℕ) → Incoming → Outgoing → Status → Type 0
 EndsAs words i o result = IsUsage words i o result ⊎ IsTask words i o result
+
+-- a workload reads nothing, however it ends
+abbrev pub IsUnreadByWork : List (List ℕ) → Incoming → Type 0
+IsUnreadByWork words i = (n : ℕ) → IsCommandLine words (Workload n) → IsUnread i

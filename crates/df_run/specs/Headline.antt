@@ -8,25 +8,28 @@ use Rattle.df_walk.specs.declared.Rules.TheVariants.{Divisor}
 use Rattle.df_walk.specs.Walks.{Step, solutions_in, nodes_in}
 use Rattle.df_walk.specs.Paths.{IsNode, load, path_of}
 use Rattle.df_runs.specs.Runs.{Run}
-use Rattle.df_lang.specs.Problems.{Stated}
+use Rattle.df_lang.specs.Problems.{Stated, point_count}
 use Rattle.df_lang.specs.Balance.{IsBalanced}
 use Rattle.df_lang.specs.Sources.{source}
 use Rattle.df_family.specs.Developments.{develop}
 use Rattle.df_family.specs.Tables.{rows, found, stated, IsAsStated}
 use Rattle.df_family.specs.declared.table.Row.{Row}
-use Rattle.df_kramer_mesner.specs.OrbitSystems.{orbit_system}
+use Rattle.df_kramer_mesner.specs.OrbitSystems.{orbit_system, columns_of}
 use Rattle.df_correspondence.specs.Designs.{asked, design}
 use Rattle.df_design.specs.RemainingDesigns.{designs_from}
 use Rattle.df_dossier.specs.Spent.{spent}
 use Rattle.df_dossier.specs.declared.spent.Spent.{Spent}
 use Rattle.df_tell.specs.Verdict.{accepted_text}
 use Rattle.df_tell.specs.Run.{head_text, source_text, from_text, design_lines, end_text, run_text}
+use Rattle.df_tell.specs.Workload.{workload_line}
 use Rattle.df_tell.specs.declared.run.Shown.{Shown}
 use Rattle.df_words.specs.CommandLines.{IsCommandLine}
 use Rattle.df_words.specs.declared.command.Options.{Options}
-use Rattle.df_words.specs.declared.command.Command.TheVariants.{Solve, Resume}
+use Rattle.df_words.specs.declared.table.TheConstants.{DEFAULT_BUDGET}
+use Rattle.df_words.specs.declared.command.Command.TheVariants.{Solve, Resume, Workload}
 use Rattle.df_run.specs.Answers.{shown_by}
 use Rattle.df_run.specs.Streams.{Incoming, Outgoing}
+use Rattle.df_run.specs.Workloads.{workload_source}
 use Rattle.df_run.specs.declared.statuses.Status.{Status}
 use Rattle.df_run.specs.declared.statuses.Status.TheVariants as ends
 
@@ -115,6 +118,31 @@ pub record IsResumedSpent (options : Options) (o : Outgoing) (bytes : List ℕ) 
   pub node : IsNode dossier.rules (orbit_system dossier.problem) (path_of dossier.path)
   pub search : IsStopped dossier.rules dossier.problem (path_of dossier.path) (designs_from dossier.problem (path_of dossier.path)) options o
 
+-- the line of a workload with this problem
+abbrev pub work_line : ℕ → Stated → ℕ → ℕ → List ℕ
+work_line n s designs nodes = workload_line n (point_count s) (length (columns_of s)) designs nodes
+
+-- the search of a workload came to its end: the line tells how many designs its problem asks for and how many nodes there are,
+-- for which the default budget pays
+pub record IsWorked (n : ℕ) (o : Outgoing) : Type 0 where
+  pub problem : Stated
+  pub source_is : source (workload_source n) ≡ Ok problem
+  pub printed : Appends o.written o.written_after (work_line n problem (length (asked problem)) (nodes_from Divisor problem []))
+  pub paid : nodes_from Divisor problem [] ≤ DEFAULT_BUDGET
+
+-- or to a stop: the designs told and those from a place on, a node, are all that are asked for; the nodes told are the default budget, and
+-- with those from the place on they are all nodes, of which there are more than the budget
+pub record IsWorkedSpent (n : ℕ) (o : Outgoing) : Type 0 where
+  pub problem : Stated
+  pub source_is : source (workload_source n) ≡ Ok problem
+  pub designs : List (List (List ℕ))
+  pub place : List Bool
+  pub printed : Appends o.written o.written_after (work_line n problem (length designs) DEFAULT_BUDGET)
+  pub designs_are : designs ++ designs_from problem place ≡ asked problem
+  pub node : IsNode Divisor (orbit_system problem) place
+  pub before : DEFAULT_BUDGET + nodes_from Divisor problem place ≡ nodes_from Divisor problem []
+  pub unpaid : DEFAULT_BUDGET < nodes_from Divisor problem []
+
 pub record Headline (words : List (List ℕ)) (i : Incoming) (o : Outgoing) (result : Status) : Type 0 where
   pub verified : words ≡ codes "verify" ∷ [] → result ≡ ends.Done → IfSome i.left (IsAccepted o)
   pub refused : words ≡ codes "verify" ∷ [] → result ≡ ends.Refused → IfSome i.left IsRefused
@@ -122,3 +150,5 @@ pub record Headline (words : List (List ℕ)) (i : Incoming) (o : Outgoing) (res
   pub spent : (options : Options) → IsCommandLine words (Solve options) → result ≡ ends.Spent → IfSome i.left (IsSpent options o)
   pub resumed : (options : Options) → IsCommandLine words (Resume options) → result ≡ ends.Done → IfSome i.left (IsResumed options o)
   pub resumed_spent : (options : Options) → IsCommandLine words (Resume options) → result ≡ ends.Spent → IfSome i.left (IsResumedSpent options o)
+  pub worked : (n : ℕ) → IsCommandLine words (Workload n) → result ≡ ends.Done → IsWorked n o
+  pub worked_spent : (n : ℕ) → IsCommandLine words (Workload n) → result ≡ ends.Spent → IsWorkedSpent n o

@@ -7,3 +7,4 @@ pub mod Readings
 pub mod Statuses
 pub mod Streams
 pub mod Tasks
+pub mod Workloads

@@ -2,7 +2,7 @@
 use Rattle.df_words.specs.declared.command.Command.{Command}
 use Rattle.df_words.specs.declared.command.Command.TheVariants as command
 use Rattle.df_run.specs.declared.tasks.Task.{Task}
-use Rattle.df_run.specs.declared.tasks.Task.TheVariants.{Source, Stream}
+use Rattle.df_run.specs.declared.tasks.Task.TheVariants.{Source, Stream, Work}
 use Rattle.df_run.specs.declared.tasks.SourceTask.TheVariants.{Show, Table, Verify, Orbits, Matrix, Solve}
 use Rattle.df_run.specs.declared.tasks.StreamTask.TheVariants.{Resume}
 
@@ -14,3 +14,4 @@ task_of command.Orbits = Source Orbits
 task_of command.Matrix = Source Matrix
 task_of (command.Solve options) = Source (Solve options)
 task_of (command.Resume options) = Stream (Resume options)
+task_of (command.Workload n) = Work n

@@ -1,6 +1,7 @@
 //! The top call: words and input to a status and a text.
 //! It stands on df_words for commands, on df_tell for texts, and on the crates of the language, of families, of orbits, of designs and of dossiers for what an answer is.
-//! The program calls `run`. Its clause `ends` says for each status what was read and what was written, and its clause `headline` what that says of designs.
+//! The program calls `run`. Its clause `ends` says for each status what was read and what was written, its clause `headline`
+//! what that says of designs, and its clause `unread` that a workload reads nothing.
 //! A law of it, `chains_are_answered`, is about searches that go on with one another's texts.
 #![tactic(auto)]
 
@@ -15,6 +16,7 @@ mod search;
 mod solve;
 mod statuses;
 mod tasks;
+mod workload;
 
 pub use df_words::{Command, Options, UsageFault, read_words};
 pub use laws::chains_are_answered;
@@ -40,3 +42,5 @@ mod resume_tests;
 mod solve_tests;
 #[cfg(test)]
 mod tests;
+#[cfg(test)]
+mod workload_tests;

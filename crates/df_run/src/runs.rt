@@ -1,6 +1,6 @@
 // The top call.
 ghost use Rattle.std.specs.Prelude.{◌≤◌, map, string_bytes};
-ghost use Rattle.df_run.specs.Endings.{EndsAs, Answers};
+ghost use Rattle.df_run.specs.Endings.{EndsAs, Answers, IsUnreadByWork};
 ghost use Rattle.df_run.specs.Headline.{Headline};
 ghost use Rattle.df_run.specs.Streams.{incoming, outgoing};
 
@@ -8,6 +8,7 @@ use crate::answers::{answer_bytes, ended};
 use crate::resume::answer_resume;
 use crate::statuses::Status;
 use crate::tasks::{SOURCE_BYTES, SourceTask, StreamTask, Task};
+use crate::workload::answer_workload;
 use df_correspondence::designs_are_solutions;
 use df_dossier::spent_dossiers_keep_their_rules;
 use df_family::{table_tells_balance, verdict_tells_balance};
@@ -17,14 +18,14 @@ use df_lang::sources_keep_their_rules;
 use df_runs::laws::runs_are_whole;
 use df_search::paths_have_reasons;
 use df_tell::write_usage;
-use df_words::{commands_are_their_lines, read_words};
+use df_words::{commands_are_their_lines, read_words, workloads_are_numbered};
 use std::alloc::Global;
 
 /// Runs the command of the words over an input, and writes its text.
 ///
-/// `Usage` comes where the words are not a command, and nothing is read then. Else `ReadFault` and `TooLong` come where
+/// `Usage` comes where the words are not a command, and nothing is read then; a workload reads nothing either. Else `ReadFault` and `TooLong` come where
 /// the input was not read to its end; `BadInput` where it is not what the command reads, the problem is above a limit of the
-/// command, or a search can't go on at its path; `Refused` only from `verify`; `Spent` only from `solve` and `resume`; and `Done`
+/// command, or a search can't go on at its path; `Refused` only from `verify`; `Spent` only from `solve`, `resume` and `workload`; and `Done`
 /// with the command's text. `WriteFault` comes where the sink failed before the end of the text, and `OutOfMemory` may come before
 /// its first byte.
 pub fn run<I: Source, O: Sink>(
@@ -35,10 +36,12 @@ pub fn run<I: Source, O: Sink>(
 ) -> Status
     ensures ends { EndsAs (map string_bytes words.now) (incoming I.left I.faults input.old input.new) (outgoing O.written O.faults out.old out.new) result }
     ensures headline { Headline (map string_bytes words.now) (incoming I.left I.faults input.old input.new) (outgoing O.written O.faults out.old out.new) result }
+    ensures unread { IsUnreadByWork (map string_bytes words.now) (incoming I.left I.faults input.old input.new) }
     ensures reads { I.faults input.old ≤ I.faults input.new }
     ensures writes { O.faults out.old ≤ O.faults out.new }
 {
     commands_are_their_lines();
+    workloads_are_numbered();
     sources_keep_their_rules();
     spent_dossiers_keep_their_rules();
     table_tells_balance();
@@ -68,6 +71,7 @@ fn run_words<I: Source, O: Sink>(
     match Task::from(command) {
         Task::Source(task) => answer_source(alloc, task, input, out),
         Task::Stream(task) => answer_stream(alloc, task, input, out),
+        Task::Work(number) => answer_workload(alloc, number, out),
     }
 }
 

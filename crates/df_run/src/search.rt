@@ -38,8 +38,8 @@ pub fn answer_designs<O: Sink, L: Ledger>(
     ran(write_run(problem, designs, rules, options.budget, shown, out, steps))
 }
 
-// The status of a run whose text was written.
-fn ran(written: Result<RunEnd, WriteFault>) -> Status
+/// The status of a run whose text was written.
+pub fn ran(written: Result<RunEnd, WriteFault>) -> Status
     ensures { result ≡ ran_status written }
 {
     match written {

@@ -19,7 +19,7 @@ pub enum Status {
     WriteFault,
     /// Out of memory. Nothing was written.
     OutOfMemory,
-    /// `solve` and `resume`: a node remains that the budget doesn't pay.
+    /// `solve`, `resume` and `workload`: a node remains that the budget doesn't pay.
     Spent,
     /// More bytes came than the limit on input allows. Nothing was written.
     TooLong,

@@ -14,6 +14,8 @@ pub enum Task {
     Source(SourceTask),
     /// It reads lines one by one, of at most `df_io::MOST_BYTES` together.
     Stream(StreamTask),
+    /// It reads nothing: the workload of this number.
+    Work(u8),
 }
 
 /// What is asked of a source.
@@ -52,6 +54,7 @@ impl From<Command> for Task {
             Command::Matrix => Task::Source(SourceTask::Matrix),
             Command::Solve(options) => Task::Source(SourceTask::Solve(options)),
             Command::Resume(options) => Task::Stream(StreamTask::Resume(options)),
+            Command::Workload(number) => Task::Work(number),
         }
     }
 }

@@ -24,7 +24,7 @@ use Rattle.df_tell.specs.declared.run.Shown.{Shown}
 use Rattle.df_tell.specs.declared.run.Counts.{Counts}
 use Rattle.df_tell.specs.declared.run.RunEnd.{RunEnd}
 use Rattle.df_tell.specs.Run.{step_lines, design_lines, solution_lines, as_written}
-use Rattle.df_tell.specs.RunSteps.{IsOf, AreCounted, run_left, Tells, stop_at, IsOver, IsRan}
+use Rattle.df_tell.specs.RunSteps.{IsOf, AreCounted, run_left, Pays, Tells, stop_at, IsOver, IsRan}
 use Rattle.df_tell.specs.Gathered.{Gathers}
 use Rattle.df_tell.proofs.GatheredTexts.{gathers_nothing, gathers_as, gathers_then, gathers_stopped}
 use Rattle.df_tell.proofs.SilentRuns.{silent_lines}
@@ -60,8 +60,8 @@ pub tells_as : {K : Type 0} {w : K → Option (List ℕ)} {f : K → ℕ} {shown
 tells_as {w = w} {f = f} {shown = shown} {s = s} {q = q} {new = new} {c = c} {d = d} {a = a} {b = b} {g = g} {h = h} is tells = subst (λ t. Tells w f shown s q new c d a b g h t) (sym is) tells
 
 -- nothing was passed yet
-pub tells_nothing : {K : Type 0} {w : K → Option (List ℕ)} {f : K → ℕ} {shown : Shown} {s : Stated} {q : Remaining} {c : Counts} {a : K} {g : List ℕ} → Tells w f shown s q q c c a a g g (Ok tt)
-tells_nothing = record {
+pub paid_nothing : {s : Stated} {q : Remaining} {c : Counts} → Pays s q q c c
+paid_nothing = record {
   steps = [];
   joined = refl;
   nodes = omega arith;
@@ -70,13 +70,15 @@ tells_nothing = record {
   problem = refl;
   system = refl;
   rules = refl;
-  gathers = gathers_nothing;
 }
 
+pub tells_nothing : {K : Type 0} {w : K → Option (List ℕ)} {f : K → ℕ} {shown : Shown} {s : Stated} {q : Remaining} {c : Counts} {a : K} {g : List ℕ} → Tells w f shown s q q c c a a g g (Ok tt)
+unfolding paid_nothing
+tells_nothing = record { pays = paid_nothing; gathers = gathers_nothing }
+
 -- steps, and then steps
-pub tells_then : {K : Type 0} {w : K → Option (List ℕ)} {f : K → ℕ} {shown : Shown} {s : Stated} {q0 q1 q2 : Remaining} {c0 c1 c2 : Counts} {a0 a1 a2 : K} {g0 g1 g2 : List ℕ} {r : Result (Unit {0}) WriteFault}
-    → Tells w f shown s q0 q1 c0 c1 a0 a1 g0 g1 (Ok tt) → Tells w f shown s q1 q2 c1 c2 a1 a2 g1 g2 r → Tells w f shown s q0 q2 c0 c2 a0 a2 g0 g2 r
-tells_then {shown = shown} {s = s} first second =
+pub paid_then : {s : Stated} {q0 q1 q2 : Remaining} {c0 c1 c2 : Counts} → Pays s q0 q1 c0 c1 → Pays s q1 q2 c1 c2 → Pays s q0 q2 c0 c2
+paid_then {s = s} first second =
     let y = orbit_system s in
     record {
       steps = first.steps ++ second.steps;
@@ -87,8 +89,15 @@ tells_then {shown = shown} {s = s} first second =
       problem = second.problem ∙ first.problem;
       system = second.system ∙ first.system;
       rules = second.rules ∙ first.rules;
-      gathers = gathers_as (sym (flat_map-append (step_lines shown s) first.steps second.steps)) (gathers_then first.gathers second.gathers);
     }
+
+pub tells_then : {K : Type 0} {w : K → Option (List ℕ)} {f : K → ℕ} {shown : Shown} {s : Stated} {q0 q1 q2 : Remaining} {c0 c1 c2 : Counts} {a0 a1 a2 : K} {g0 g1 g2 : List ℕ} {r : Result (Unit {0}) WriteFault}
+    → Tells w f shown s q0 q1 c0 c1 a0 a1 g0 g1 (Ok tt) → Tells w f shown s q1 q2 c1 c2 a1 a2 g1 g2 r → Tells w f shown s q0 q2 c0 c2 a0 a2 g0 g2 r
+unfolding paid_then
+tells_then {shown = shown} {s = s} first second = record {
+  pays = paid_then first.pays second.pays;
+  gathers = gathers_as (sym (flat_map-append (step_lines shown s) first.pays.steps second.pays.steps)) (gathers_then first.gathers second.gathers);
+}
 
 -- the first entry was passed
 pub gives_tells : {K : Type 0} {w : K → Option (List ℕ)} {f : K → ℕ} {shown : Shown} {s : Stated} {q new : Remaining} {c d : Counts} {a b : K} {g h : List ℕ} {r : Result (Unit {0}) WriteFault} (e : Entry)
@@ -96,14 +105,16 @@ pub gives_tells : {K : Type 0} {w : K → Option (List ℕ)} {f : K → ℕ} {sh
     → d.designs ≡ c.designs + length (solutions_in (orbit_system s) ((new.search.path, e) ∷ []))
     → Gathers w f a b g h (step_lines shown s (new.search.path, e)) r → Tells w f shown s q new c d a b g h r
 gives_tells {shown = shown} {s = s} {new = new} e problem gives counted written = record {
-  steps = (new.search.path, e) ∷ [];
-  joined = gives.first;
-  nodes = gives.paid;
-  designs = counted;
-  few = omega (arith, gives.paid, counted, sols_few (orbit_system s) ((new.search.path, e) ∷ []));
-  problem = problem;
-  system = gives.passes.system;
-  rules = gives.passes.rules;
+  pays = record {
+    steps = (new.search.path, e) ∷ [];
+    joined = gives.first;
+    nodes = gives.paid;
+    designs = counted;
+    few = omega (arith, gives.paid, counted, sols_few (orbit_system s) ((new.search.path, e) ∷ []));
+    problem = problem;
+    system = gives.passes.system;
+    rules = gives.passes.rules;
+  };
   gathers = gathers_as (sym (append-nil (step_lines shown s (new.search.path, e)))) written;
 }
 
@@ -118,11 +129,9 @@ logged_solution shown s p chosen log is = rw (log, is) refl
 pub chosen_is : (s : Stated) (q new : Remaining) (n left : ℕ) → IsOf s q → Finds q.search n new.search left → new.search.chosen ≡ solution_of (orbit_system s) (new.search.path, Settled)
 chosen_is s q new n left is finds = finds.chosen ∙ ap Some (finds.solution_is ∙ ap (λ y. yes_vector (length y.columns) (decided new.search.path)) is.system)
 
--- all up to a design was passed without a log
-pub finds_tells : {K : Type 0} {w : K → Option (List ℕ)} {f : K → ℕ} {shown : Shown} {s : Stated} {q new : Remaining} {c d : Counts} {a b : K} {g h : List ℕ} {r : Result (Unit {0}) WriteFault}
-    → IsOf s q → new.problem ≡ q.problem → shown.log ≡ false → Finds q.search c.left new.search d.left → d.designs ≡ c.designs + 1
-    → Gathers w f a b g h (solution_lines shown s new.search.chosen) r → Tells w f shown s q new c d a b g h r
-finds_tells {shown = shown} {s = s} {new = new} is problem silent finds counted written =
+-- all up to a design was passed
+pub finds_paid : {s : Stated} {q new : Remaining} {c d : Counts} → IsOf s q → new.problem ≡ q.problem → Finds q.search c.left new.search d.left → d.designs ≡ c.designs + 1 → Pays s q new c d
+finds_paid {s = s} is problem finds counted =
     let passed = finds.passes.passed in
     let found : solutions_in (orbit_system s) passed ≡ finds.solution ∷ [] = ap (λ y. solutions_in y passed) (sym is.system) ∙ finds.passes.solutions in
     record {
@@ -134,6 +143,18 @@ finds_tells {shown = shown} {s = s} {new = new} is problem silent finds counted 
       problem = problem;
       system = finds.passes.system;
       rules = finds.passes.rules;
+    }
+
+-- the same without a log
+pub finds_tells : {K : Type 0} {w : K → Option (List ℕ)} {f : K → ℕ} {shown : Shown} {s : Stated} {q new : Remaining} {c d : Counts} {a b : K} {g h : List ℕ} {r : Result (Unit {0}) WriteFault}
+    → IsOf s q → new.problem ≡ q.problem → shown.log ≡ false → Finds q.search c.left new.search d.left → d.designs ≡ c.designs + 1
+    → Gathers w f a b g h (solution_lines shown s new.search.chosen) r → Tells w f shown s q new c d a b g h r
+unfolding finds_paid
+finds_tells {shown = shown} {s = s} {new = new} is problem silent finds counted written =
+    let passed = finds.passes.passed in
+    let found : solutions_in (orbit_system s) passed ≡ finds.solution ∷ [] = ap (λ y. solutions_in y passed) (sym is.system) ∙ finds.passes.solutions in
+    record {
+      pays = finds_paid is problem finds counted;
       gathers = gathers_as (ap (solution_lines shown s) finds.chosen ∙ sym (append-nil (design_lines shown s (design s finds.solution))) ∙ ap (λ l. flat_map (design_lines shown s) (map (design s) l)) (sym found) ∙ sym (silent_lines shown s passed silent)) written;
     }
 
@@ -141,10 +162,9 @@ finds_tells {shown = shown} {s = s} {new = new} is problem silent finds counted 
 pub finds_pays : (q new : Searching) (n left : ℕ) → Finds q n new left → left < n
 finds_pays q new n left finds = omega (arith, finds.passes.nodes, ap length finds.passes.solutions, sols_few q.system finds.passes.passed)
 
--- entries without a solution were passed without a log
-pub passes_tells : {K : Type 0} {w : K → Option (List ℕ)} {f : K → ℕ} {shown : Shown} {s : Stated} {q new : Remaining} {c d : Counts} {a : K} {g : List ℕ}
-    → IsOf s q → new.problem ≡ q.problem → shown.log ≡ false → Passes q.search c.left new.search d.left [] → d.designs ≡ c.designs → Tells w f shown s q new c d a a g g (Ok tt)
-passes_tells {shown = shown} {s = s} is problem silent passes counted =
+-- entries without a solution were passed
+pub passes_paid : {s : Stated} {q new : Remaining} {c d : Counts} → IsOf s q → new.problem ≡ q.problem → Passes q.search c.left new.search d.left [] → d.designs ≡ c.designs → Pays s q new c d
+passes_paid {s = s} is problem passes counted =
     let found : solutions_in (orbit_system s) passes.passed ≡ [] = ap (λ y. solutions_in y passes.passed) (sym is.system) ∙ passes.solutions in
     record {
       steps = passes.passed;
@@ -155,6 +175,16 @@ passes_tells {shown = shown} {s = s} is problem silent passes counted =
       problem = problem;
       system = passes.system;
       rules = passes.rules;
+    }
+
+-- the same without a log
+pub passes_tells : {K : Type 0} {w : K → Option (List ℕ)} {f : K → ℕ} {shown : Shown} {s : Stated} {q new : Remaining} {c d : Counts} {a : K} {g : List ℕ}
+    → IsOf s q → new.problem ≡ q.problem → shown.log ≡ false → Passes q.search c.left new.search d.left [] → d.designs ≡ c.designs → Tells w f shown s q new c d a a g g (Ok tt)
+unfolding passes_paid
+passes_tells {shown = shown} {s = s} is problem silent passes counted =
+    let found : solutions_in (orbit_system s) passes.passed ≡ [] = ap (λ y. solutions_in y passes.passed) (sym is.system) ∙ passes.solutions in
+    record {
+      pays = passes_paid is problem passes counted;
       gathers = gathers_as (ap (λ l. flat_map (design_lines shown s) (map (design s) l)) (sym found) ∙ sym (silent_lines shown s passes.passed silent)) gathers_nothing;
     }
 
@@ -162,50 +192,51 @@ passes_tells {shown = shown} {s = s} is problem silent passes counted =
 pub stays_tells : {K : Type 0} {w : K → Option (List ℕ)} {f : K → ℕ} {shown : Shown} {s : Stated} {q new : Remaining} {c d : Counts} {a : K} {g : List ℕ}
     → new.problem ≡ q.problem → new.search.rest ≡ q.search.rest → Passes q.search c.left new.search d.left [] → d.designs ≡ c.designs → Tells w f shown s q new c d a a g g (Ok tt)
 stays_tells problem same passes counted = record {
-  steps = [];
-  joined = sym same;
-  nodes = omega (arith, passes.nodes_remain, ap (λ l. length (nodes_in l)) same);
-  designs = omega (arith, counted);
-  few = omega (arith, counted, passes.nodes);
-  problem = problem;
-  system = passes.system;
-  rules = passes.rules;
+  pays = record {
+    steps = [];
+    joined = sym same;
+    nodes = omega (arith, passes.nodes_remain, ap (λ l. length (nodes_in l)) same);
+    designs = omega (arith, counted);
+    few = omega (arith, counted, passes.nodes);
+    problem = problem;
+    system = passes.system;
+    rules = passes.rules;
+  };
   gathers = gathers_nothing;
 }
 
 -- the run of which steps were passed: these, and those of the run left
-pub tells_run : {K : Type 0} {w : K → Option (List ℕ)} {f : K → ℕ} {shown : Shown} {s : Stated} {q new : Remaining} {c d : Counts} {a b : K} {g h : List ℕ} {r : Result (Unit {0}) WriteFault}
-    → AreCounted q.search → (tells : Tells w f shown s q new c d a b g h r) → run_left q.search c.left ≡ then_run (record { taken = tells.steps; stop = None }) (run_left new.search d.left)
-tells_run {q = q} {new = new} {c = c} {d = d} counted tells = run_passed q.search new.search tells.steps c.left d.left counted tells.joined tells.nodes tells.system tells.rules
+pub paid_run : {s : Stated} {q new : Remaining} {c d : Counts} → AreCounted q.search → (pays : Pays s q new c d) → run_left q.search c.left ≡ then_run (record { taken = pays.steps; stop = None }) (run_left new.search d.left)
+paid_run {q = q} {new = new} {c = c} {d = d} counted pays = run_passed q.search new.search pays.steps c.left d.left counted pays.joined pays.nodes pays.system pays.rules
 
 -- the text of the steps of a run, of which a text was stopped
 pub stopped_text : {K : Type 0} {w : K → Option (List ℕ)} {f : K → ℕ} {shown : Shown} {s : Stated} {q new : Remaining} {c d : Counts} {a b : K} {g h i : List ℕ} {e : WriteFault} {r : Result (Unit {0}) WriteFault}
     → AreCounted q.search → Tells w f shown s q new c d a b g h (Err e) → IsErr r → Gathers w f a b g i (flat_map (step_lines shown s) (run_left q.search c.left).taken) r
 stopped_text {shown = shown} {s = s} {new = new} {d = d} counted tells err =
+    let steps = tells.pays.steps in
     let more = (run_left new.search d.left).taken in
-    gathers_as (sym (flat_map-append (step_lines shown s) tells.steps more) ∙ ap (λ run. flat_map (step_lines shown s) run.taken) (sym (tells_run counted tells)))
+    gathers_as (sym (flat_map-append (step_lines shown s) steps more) ∙ ap (λ run. flat_map (step_lines shown s) run.taken) (sym (paid_run counted tells.pays)))
     (gathers_stopped (flat_map (step_lines shown s) more) tells.gathers err)
 
 -- where the run left is over, the run is the steps that were passed
-pub over_run : {K : Type 0} {w : K → Option (List ℕ)} {f : K → ℕ} {shown : Shown} {s : Stated} {q new : Remaining} {c d : Counts} {a b : K} {g h : List ℕ} {r : Result (Unit {0}) WriteFault} {end : RunEnd}
-    → AreCounted q.search → (tells : Tells w f shown s q new c d a b g h r) → IsOver new.search d.left end → run_left q.search c.left ≡ record { taken = tells.steps; stop = stop_at end new.search }
-over_run {new = new} {end = end} counted tells over =
-    tells_run counted tells ∙ ap (then_run (record { taken = tells.steps; stop = None })) over.run
-    ∙ ap (λ l. record { taken = l; stop = stop_at end new.search }) (append-nil tells.steps)
+pub over_run : {s : Stated} {q new : Remaining} {c d : Counts} {end : RunEnd} → AreCounted q.search → (pays : Pays s q new c d) → IsOver new.search d.left end → run_left q.search c.left ≡ record { taken = pays.steps; stop = stop_at end new.search }
+over_run {new = new} {end = end} counted pays over =
+    paid_run counted pays ∙ ap (then_run (record { taken = pays.steps; stop = None })) over.run
+    ∙ ap (λ l. record { taken = l; stop = stop_at end new.search }) (append-nil pays.steps)
 
 pub over_text : {K : Type 0} {w : K → Option (List ℕ)} {f : K → ℕ} {shown : Shown} {s : Stated} {q new : Remaining} {c d : Counts} {a b : K} {g h : List ℕ} {r : Result (Unit {0}) WriteFault} {end : RunEnd}
     → AreCounted q.search → Tells w f shown s q new c d a b g h r → IsOver new.search d.left end → Gathers w f a b g h (flat_map (step_lines shown s) (run_left q.search c.left).taken) r
-over_text {shown = shown} {s = s} counted tells over = gathers_as (ap (λ run. flat_map (step_lines shown s) run.taken) (sym (over_run counted tells over))) tells.gathers
+over_text {shown = shown} {s = s} counted tells over = gathers_as (ap (λ run. flat_map (step_lines shown s) run.taken) (sym (over_run counted tells.pays over))) tells.gathers
 
-pub over_ran : {K : Type 0} {w : K → Option (List ℕ)} {f : K → ℕ} {shown : Shown} {s : Stated} {q new : Remaining} {c d : Counts} {a b : K} {g h : List ℕ} {r : Result (Unit {0}) WriteFault} {end : RunEnd} (nodes : ℕ)
-    → AreCounted q.search → Tells w f shown s q new c d a b g h r → IsOver new.search d.left end → c.designs ≡ 0 → nodes + d.left ≡ c.left
+pub over_ran : {s : Stated} {q new : Remaining} {c d : Counts} {end : RunEnd} (nodes : ℕ)
+    → AreCounted q.search → Pays s q new c d → IsOver new.search d.left end → c.designs ≡ 0 → nodes + d.left ≡ c.left
     → IsRan s (run_left q.search c.left) new.search (record { end = end; designs = d.designs; nodes = nodes })
-over_ran {s = s} {new = new} {d = d} {end = end} nodes counted tells over zero visited =
-    let run = sym (over_run counted tells over) in
+over_ran {s = s} {new = new} {d = d} {end = end} nodes counted pays over zero visited =
+    let run = sym (over_run counted pays over) in
     record {
-      designs = omega (arith, tells.designs, zero, ap (λ run. length (solutions_in (orbit_system s) run.taken)) run);
-      nodes = omega (arith, tells.nodes, visited, ap (λ run. length (nodes_in run.taken)) run);
-      stop = ap (λ run. run.stop) (over_run counted tells over);
+      designs = omega (arith, pays.designs, zero, ap (λ run. length (solutions_in (orbit_system s) run.taken)) run);
+      nodes = omega (arith, pays.nodes, visited, ap (λ run. length (nodes_in run.taken)) run);
+      stop = ap (λ run. run.stop) (over_run counted pays over);
       place = over.place;
     }
 

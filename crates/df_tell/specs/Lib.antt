@@ -14,3 +14,4 @@ pub mod RunBack
 pub mod Table
 pub mod Usage
 pub mod Verdict
+pub mod Workload

@@ -39,8 +39,8 @@ AreCounted q = AllByRecursion (IsCounted (is_node q.rules q.system)) q.rest
 abbrev pub run_left : Searching → ℕ → Run
 run_left q n = run_over (is_node q.rules q.system) n q.rest
 
--- steps were passed and paid, their designs were counted, and what is printed of them was gathered
-pub record Tells {K : Type 0} (written : K → Option (List ℕ)) (faults : K → ℕ) (shown : Shown) (s : Stated) (old new : Remaining) (counts counts_new : Counts) (out out_new : K) (gathered gathered_new : List ℕ) (result : Result (Unit {0}) WriteFault) : Type 0 where
+-- steps were passed and paid, and their designs were counted
+pub record Pays (s : Stated) (old new : Remaining) (counts counts_new : Counts) : Type 0 where
   pub steps : List Step
   pub joined : old.search.rest ≡ steps ++ new.search.rest
   pub nodes : counts.left ≡ length (nodes_in steps) + counts_new.left
@@ -49,7 +49,11 @@ pub record Tells {K : Type 0} (written : K → Option (List ℕ)) (faults : K �
   pub problem : new.problem ≡ old.problem
   pub system : new.search.system ≡ old.search.system
   pub rules : new.search.rules ≡ old.search.rules
-  pub gathers : Gathers written faults out out_new gathered gathered_new (flat_map (step_lines shown s) steps) result
+
+-- and what is printed of them was gathered
+pub record Tells {K : Type 0} (written : K → Option (List ℕ)) (faults : K → ℕ) (shown : Shown) (s : Stated) (old new : Remaining) (counts counts_new : Counts) (out out_new : K) (gathered gathered_new : List ℕ) (result : Result (Unit {0}) WriteFault) : Type 0 where
+  pub pays : Pays s old new counts counts_new
+  pub gathers : Gathers written faults out out_new gathered gathered_new (flat_map (step_lines shown s) pays.steps) result
 
 -- the path where a run goes on that ended so
 abbrev pub stop_at : RunEnd → Searching → Option (List Bool)

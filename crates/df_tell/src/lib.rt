@@ -1,7 +1,7 @@
 //! The texts that the program prints, each written to a sink.
 //! A text has a module with its writer, and a module of specs/ of the same name with the text as a list of bytes.
 //! Each writer's one clause is `Writes`: all of the text was written, or a proper prefix of it, and the sink failed.
-//! `write_run` says besides how the run ended.
+//! `write_run` and `write_workload` say besides how the run ended.
 //! Laws for the rooms above: proofs/SilentRuns.
 #![tactic(auto)]
 
@@ -24,6 +24,7 @@ mod run_tests;
 mod table;
 mod usage;
 mod verdict;
+mod workload;
 
 pub use canonical::write_canonical;
 pub use dossier::write_dossier_refusal;
@@ -37,3 +38,4 @@ pub use run::{RunEnd, Shown, write_run};
 pub use table::write_table;
 pub use usage::write_usage;
 pub use verdict::write_verdict;
+pub use workload::write_workload;

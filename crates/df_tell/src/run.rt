@@ -48,21 +48,21 @@ pub enum RunEnd {
     Spent,
 }
 
-// What was printed of a run so far, and what it may still visit.
+/// What was found in a run so far, and what it may still visit.
 #[derive(Drop)]
-struct Counts {
-    // how many designs were printed
-    designs: u64,
-    // how many nodes the budget still allows
-    left: u64,
+pub(crate) struct Counts {
+    /// How many designs were found.
+    pub(crate) designs: u64,
+    /// How many nodes the budget still allows.
+    pub(crate) left: u64,
 }
 
-// What a run was, once it ended.
+/// What a run was, once it ended.
 #[derive(Drop)]
-struct Ran {
-    end: RunEnd,
-    designs: u64,
-    nodes: u64,
+pub(crate) struct Ran {
+    pub(crate) end: RunEnd,
+    pub(crate) designs: u64,
+    pub(crate) nodes: u64,
 }
 
 /// Writes the text of the run of this budget from where the search stands, and says how it ended.

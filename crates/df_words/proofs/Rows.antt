@@ -5,12 +5,14 @@ use Rattle.std.proofs.lemmas.Bool.{and_from}
 use Rattle.df_words.specs.Table.{excludes, number, value, number_in, has, with_option}
 use Rattle.df_words.specs.Reading.{admits, is_free}
 use Rattle.df_words.specs.declared.table.Name.{Name}
+use Rattle.df_words.specs.declared.table.Name.TheVariants as name
 use Rattle.df_words.specs.declared.table.Flag.{Flag}
 use Rattle.df_words.specs.declared.table.Flag.TheVariants as flag
 use Rattle.df_words.specs.declared.table.Stated.{Stated}
 
 -- a command's number can be spelled
 pub spelled : (name : Name) → is_some (number name) ≡ true → (word : List ℕ) × (n : ℕ) × (number_in (number name) word ≡ Some n)
+spelled name.Workload wanted = (codes "1", 1, refl)
 spelled name wanted = absurd (cc)
 
 -- and so can an option's

@@ -1,14 +1,16 @@
 -- The words read one after the other.
-use Rattle.std.specs.Prelude.{◌≡◌, ◌↔◌, ℕ, Bool, true, not, ◌&&◌, List, [], ◌∷◌, if◌then◌else◌, Option, Some, None}
+use Rattle.std.specs.Prelude.{◌≡◌, ◌↔◌, ℕ, ◌≤◌, Bool, true, not, ◌&&◌, List, [], ◌∷◌, if◌then◌else◌, Option, Some, None}
 use Rattle.std.specs.Option.{option_and_then, option_map, is_some}
 use Rattle.df_words.specs.Table.{named, flagged, takes, excludes, number, value, number_in, nothing_stated, has, with_option, command_named, IsNumberOf}
 use Rattle.df_words.specs.CommandLines.{IsCommandLine}
+use Rattle.df_words.specs.declared.table.TheConstants.{LEAST_WORKLOAD, MOST_WORKLOAD}
 use Rattle.df_words.specs.declared.table.Name.{Name}
 use Rattle.df_words.specs.declared.table.Flag.{Flag}
 use Rattle.df_words.specs.declared.table.Flag.TheVariants as flag
 use Rattle.df_words.specs.declared.table.Bounds.{Bounds}
 use Rattle.df_words.specs.declared.table.Stated.{Stated}
 use Rattle.df_words.specs.declared.command.Command.{Command}
+use Rattle.df_words.specs.declared.command.Command.TheVariants.{Workload}
 use Rattle.df_words.specs.declared.words.Reading.{Reading}
 use Rattle.df_words.specs.declared.words.Reading.TheVariants.{Start, Number, Given, Value}
 
@@ -67,3 +69,7 @@ command_of words = option_and_then ended (reading_from Start words)
 -- the words that are read to a command are exactly its command lines
 abbrev pub CommandLineLaw : Type 0
 CommandLineLaw = (words : List (List ℕ)) (command : Command) → (command_of words ≡ Some command) ↔ IsCommandLine words command
+
+-- a command line of a workload has a number within its bounds
+abbrev pub WorkloadLaw : Type 0
+WorkloadLaw = (words : List (List ℕ)) (n : ℕ) → IsCommandLine words (Workload n) → (LEAST_WORKLOAD ≤ n) × (n ≤ MOST_WORKLOAD)

@@ -4,7 +4,7 @@ use Rattle.std.specs.Option.{is_some}
 use Rattle.df_io.specs.Number.{number_read}
 use Rattle.df_io.specs.declared.numbers.NumberRead.{NumberRead}
 use Rattle.df_io.specs.declared.numbers.NumberRead.TheVariants.{Value, NotDigits, TooLarge}
-use Rattle.df_words.specs.declared.table.TheConstants.{LEAST_BUDGET, MOST_BUDGET, DEFAULT_BUDGET}
+use Rattle.df_words.specs.declared.table.TheConstants.{LEAST_BUDGET, MOST_BUDGET, DEFAULT_BUDGET, LEAST_WORKLOAD, MOST_WORKLOAD}
 use Rattle.df_words.specs.declared.table.Name.{Name}
 use Rattle.df_words.specs.declared.table.Name.TheVariants as name
 use Rattle.df_words.specs.declared.table.Flag.{Flag}
@@ -24,7 +24,8 @@ named word =
     (if bytes_eq word (codes "orbits") then Some name.Orbits else
     (if bytes_eq word (codes "matrix") then Some name.Matrix else
     (if bytes_eq word (codes "solve") then Some name.Solve else
-    (if bytes_eq word (codes "resume") then Some name.Resume else None))))))
+    (if bytes_eq word (codes "resume") then Some name.Resume else
+    (if bytes_eq word (codes "workload") then Some name.Workload else None)))))))
 
 -- the option that a word names
 abbrev pub flagged : List ℕ → Option Flag
@@ -56,6 +57,7 @@ excludes first second = false
 
 -- the numbers that may follow a command's word, where it wants one
 abbrev pub number : Name → Option Bounds
+number name.Workload = Some record { least = LEAST_WORKLOAD; most = MOST_WORKLOAD }
 number name = None
 
 -- the numbers that may follow an option's word, where it wants one
@@ -116,3 +118,4 @@ command_named name.Orbits n stated = command.Orbits
 command_named name.Matrix n stated = command.Matrix
 command_named name.Solve n stated = command.Solve (options_in stated)
 command_named name.Resume n stated = command.Resume (options_in stated)
+command_named name.Workload n stated = command.Workload n

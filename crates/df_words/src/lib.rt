@@ -9,8 +9,8 @@ mod table;
 mod words;
 
 pub use command::{Command, Options};
-pub use laws::commands_are_their_lines;
-pub use table::{DEFAULT_BUDGET, LEAST_BUDGET, MOST_BUDGET};
+pub use laws::{commands_are_their_lines, workloads_are_numbered};
+pub use table::{DEFAULT_BUDGET, LEAST_BUDGET, LEAST_WORKLOAD, MOST_BUDGET, MOST_WORKLOAD};
 pub use words::{UsageFault, read_words};
 
 #[cfg(test)]

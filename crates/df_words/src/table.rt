@@ -14,6 +14,7 @@ pub enum Name {
     Matrix,
     Solve,
     Resume,
+    Workload,
 }
 
 /// The options, by their words.
@@ -58,6 +59,12 @@ pub const MOST_BUDGET: u64 = 1_000_000_000_000_000;
 /// The budget where none is stated.
 pub const DEFAULT_BUDGET: u64 = 1_000_000_000;
 
+/// The least number of a workload.
+pub const LEAST_WORKLOAD: u64 = 1;
+
+/// The greatest number of a workload.
+pub const MOST_WORKLOAD: u64 = 20;
+
 /// The command that a word names.
 pub fn named(word: &str) -> Option<Name>
     ensures { result ≡ named word.now }
@@ -70,6 +77,7 @@ pub fn named(word: &str) -> Option<Name>
         "matrix" => Some(Name::Matrix),
         "solve" => Some(Name::Solve),
         "resume" => Some(Name::Resume),
+        "workload" => Some(Name::Workload),
         _ => None,
     }
 }
@@ -101,6 +109,7 @@ pub fn takes(name: Name, flag: Flag) -> bool
         (Name::Solve, _) => true,
         (Name::Resume, Flag::Json) => false,
         (Name::Resume, _) => true,
+        (Name::Workload, _) => false,
     }
 }
 
@@ -129,6 +138,10 @@ pub fn number(name: Name) -> Option<Bounds>
         Name::Matrix => None,
         Name::Solve => None,
         Name::Resume => None,
+        Name::Workload => Some(Bounds {
+            least: LEAST_WORKLOAD,
+            most: MOST_WORKLOAD,
+        }),
     }
 }
 
@@ -201,5 +214,6 @@ pub fn command(name: Name, number: u64, stated: Stated) -> Command
         Name::Matrix => Command::Matrix,
         Name::Solve => Command::Solve(stated.options()),
         Name::Resume => Command::Resume(stated.options()),
+        Name::Workload => Command::Workload(number as u8),
     }
 }

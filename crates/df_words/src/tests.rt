@@ -93,6 +93,18 @@ fn reads_the_options_of_a_search_that_goes_on(rt: HostRuntime) -> Result<(), Fai
 }
 
 #[test]
+fn reads_the_number_of_a_workload(rt: HostRuntime) -> Result<(), Fail> {
+    for (words, number) in [
+        (&["workload", "1"][..], 1),
+        (&["workload", "7"][..], 7),
+        (&["workload", "020"][..], 20),
+    ] {
+        assert_eq!(rt; read(rt.alloc(), words)?, Ok(Command::Workload(number)));
+    }
+    Ok(())
+}
+
+#[test]
 fn names_the_first_word_at_fault(rt: HostRuntime) -> Result<(), Fail> {
     for (words, word) in [
         (&[][..], 1),
@@ -105,7 +117,17 @@ fn names_the_first_word_at_fault(rt: HostRuntime) -> Result<(), Fail> {
         (&["--log"][..], 1),
         (&["solved"][..], 1),
         (&["resumed"][..], 1),
-        (&["workload", "7"][..], 1),
+        (&["workloads", "7"][..], 1),
+        (&["7", "workload"][..], 1),
+        (&["workload"][..], 2),
+        (&["workload", "0"][..], 2),
+        (&["workload", "21"][..], 2),
+        (&["workload", "257"][..], 2),
+        (&["workload", "seven"][..], 2),
+        (&["workload", "--log"][..], 2),
+        (&["workload", "18446744073709551617"][..], 2),
+        (&["workload", "7", "7"][..], 3),
+        (&["workload", "7", "--log"][..], 3),
         (&["check", "verify"][..], 1),
         (&["verify", "verify"][..], 2),
         (&["show", "table"][..], 2),

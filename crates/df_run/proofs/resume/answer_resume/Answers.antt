@@ -1,4 +1,4 @@
-use Rattle.std.proofs.Common.{◌≡◌, ℕ, List, Ok}
+use Rattle.std.proofs.Common.{◌≡◌, Ok}
 use Rattle.df_dossier.specs.Spent.{spent}
 use Rattle.df_run.specs.Streams.{incoming, outgoing}
 use Rattle.df_run.proofs.StreamEndings.{all_read, resumed_answers}

@@ -1,4 +1,3 @@
-use Rattle.std.proofs.Common.{IsSome, Some}
 use Rattle.df_runs.specs.Runs.{run_of}
 use Rattle.df_kramer_mesner.specs.OrbitSystems.{orbit_system}
 use Rattle.df_run.proofs.Endings.{run_replied, some_place}

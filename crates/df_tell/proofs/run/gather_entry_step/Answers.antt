@@ -1,4 +1,4 @@
-use Rattle.std.proofs.Common.{arith, refl}
+use Rattle.std.proofs.Common.{arith, refl, sym, ◌∙◌}
 use Rattle.df_tell.proofs.GatheredTexts.{gathers_as}
 use Rattle.df_walk.specs.declared.Entry.TheVariants.{Branch, Over, Under, Residue, Settled}
 use Rattle.df_tell.proofs.RunSteps.{tells_as, gives_tells, logged_line, logged_solution, chosen_is, stays_tells}
@@ -26,6 +26,11 @@ returns-in-Residue-clause-tells g c =
 
 pub returns-in-Spent-clause-tells : goal.returns-in-Spent-clause-tells
 returns-in-Spent-clause-tells g c = stays_tells c.advance.ensures.problem c.in-Spent.ensures.answer.same c.in-Spent.ensures.answer.stops.passes refl
+
+pub returns-in-Finished-clause-tells : goal.returns-in-Finished-clause-tells
+returns-in-Finished-clause-tells g c =
+    let ended = c.in-Finished.ensures.answer in
+    stays_tells c.advance.ensures.problem (ended.ends.end ∙ sym ended.none) ended.ends.passes refl
 
 pub returns-in-Solution-clause-tells : goal.returns-in-Solution-clause-tells
 returns-in-Solution-clause-tells g c =

@@ -1,6 +1,6 @@
 use Rattle.std.proofs.Common.{subst, refl, arith, ◌-◌}
 use Rattle.df_tell.specs.RunSteps.{IsOver, EndsOrGoesOn}
-use Rattle.df_tell.proofs.RunSteps.{tells_then, stopped_text, over_text, over_ran, err_written}
+use Rattle.df_tell.proofs.RunSteps.{paid_then, tells_nothing, tells_then, stopped_text, over_text, over_ran, err_written}
 use Rattle.df_tell.proofs.run.gather_steps.Goals as goal
 
 pub returns-in_err-end-clause-gathers : goal.returns-in_err-end-clause-gathers
@@ -19,8 +19,11 @@ returns-in-Some-clause-ran g c =
     let new = c.gather_step.new.designs.search in
     let left = c.gather_step.new.counts.left in
     let over : IsOver new left c.in-Some.end = subst (EndsOrGoesOn c.loop-end.designs.search new left) c.in-Some.is c.in_ok-end.ensures.ends in
-    over_ran (c.args.budget - left) c.requires.counted (tells_then c.loop-end.invariant.tells c.in_ok-end.ensures.tells) over refl
-    (omega (arith, c.loop-end.invariant.tells.nodes, c.in_ok-end.ensures.tells.nodes))
+    over_ran (c.args.budget - left) c.requires.counted (paid_then c.loop-end.invariant.tells.pays c.in_ok-end.ensures.tells.pays) over refl
+    (omega (arith, c.loop-end.invariant.tells.pays.nodes, c.in_ok-end.ensures.tells.pays.nodes))
 
 pub loop-end-preserved : goal.loop-end-preserved
 loop-end-preserved g c = record { tells = tells_then c.loop-end.invariant.tells c.in_ok-end.ensures.tells }
+
+pub loop-end-init : goal.loop-end-init
+loop-end-init g c = record { tells = tells_nothing }
