@@ -11,6 +11,7 @@
 #![tactic(auto)]
 
 pub mod checker;
+mod checks;
 mod cuts;
 pub mod design_checker;
 pub mod design_laws;
@@ -21,6 +22,7 @@ pub mod laws;
 mod tests;
 
 pub use checker::SystemChecker;
+pub use checks::{CheckError, CheckVerdict};
 pub use design_checker::Checker;
 pub use df_walk::{CutRow, Entry};
 
