@@ -16,4 +16,5 @@ pub mod RunPaths
 pub mod SpentStreams
 pub mod Pieces
 pub mod DossierPieces
+pub mod DossiersBack
 pub mod SpentRules
