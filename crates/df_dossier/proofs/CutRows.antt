@@ -1,6 +1,5 @@
 -- The rows of a cut, read one after the other.
-use Rattle.std.proofs.Common.{◌≡◌, ◌<◌, ◌≤◌, ◌+◌, ◌&&◌, ℕ, ℤ, Bool, true, false, ltb, List, [], ◌∷◌, ◌++◌, length, Some, refl, arith, tests, length-append}
-use Rattle.std.specs.List.{list_all}
+use Rattle.std.proofs.Common.{◌≡◌, ◌≤◌, ◌&&◌, ℕ, ℤ, Bool, true, false, ltb, List, [], ◌∷◌, ◌++◌, length, Some, refl, arith, tests, length-append}
 use Rattle.df_walk.specs.declared.CutRow.{CutRow}
 use Rattle.df_dossier.specs.Tokens.{place_of}
 use Rattle.df_dossier.specs.Entries.{weight_of, may_follow, cut_from}

@@ -1,13 +1,13 @@
 -- A design line, one token more.
-use Rattle.std.proofs.Common.{◌≡◌, ℕ, ◌+◌, ◌<◌, ◌≤◌, Bool, true, false, ◌&&◌, cond, leb, List, [], ◌∷◌, ◌++◌, length, Option, Some, None, option_map, refl, sym, ap, ◌∙◌, arith, tests, append-nil, append_assoc}
+use Rattle.std.proofs.Common.{◌≡◌, ℕ, ◌<◌, ◌≤◌, Bool, true, false, ◌&&◌, cond, List, [], ◌∷◌, ◌++◌, length, Option, Some, None, option_map, refl, sym, ap, ◌∙◌, arith, append-nil, append_assoc}
 use Rattle.std.specs.List.{slice_split, onto_first}
 use Rattle.std.proofs.lemmas.List.Splits.{slice_split-cons_yes, slice_split-cons_no, length-slice_split}
-use Rattle.df_lists.specs.NumberSets.{has_member, with_member}
+use Rattle.df_lists.specs.NumberSets.{with_member}
 use Rattle.df_lang.specs.Problems.{Stated}
 use Rattle.df_lang.specs.Values.{point_of}
 use Rattle.df_dossier.specs.Tokens.{◌>>?◌, values_of}
 use Rattle.df_dossier.specs.Designs.{is_separator, rises_from, block_with, block_read, blocks_read}
-use Rattle.df_dossier.specs.DesignSteps.{Drafted, least_after, with_point, blocks_after, drafted}
+use Rattle.df_dossier.specs.DesignSteps.{least_after, with_point, blocks_after, drafted}
 use Rattle.df_dossier.proofs.Rising.{rises_both, with_last, follows_rises, low_falls}
 
 module _ (s : Stated) where

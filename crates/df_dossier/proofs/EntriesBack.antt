@@ -1,5 +1,5 @@
 -- Entry lines, read back.
-use Rattle.std.proofs.Common.{◌≡◌, ◌==◌, ℕ, zero, suc, ◌+◌, ◌<◌, ◌≤◌, Bool, true, false, ltb, List, [], ◌∷◌, ◌++◌, length, ℤ, pos, negsuc, neg_ℤ, Some, None, option_map, codes, decimal, refl, sym, ap, ◌∙◌, arith, tests, append-nil, append_assoc, length-append}
+use Rattle.std.proofs.Common.{◌≡◌, ◌==◌, ℕ, suc, ◌+◌, ◌<◌, true, ltb, List, [], ◌∷◌, ◌++◌, length, ℤ, pos, negsuc, neg_ℤ, Some, option_map, codes, decimal, refl, sym, ap, ◌∙◌, arith, tests, append-nil, append_assoc, length-append}
 use Rattle.std.specs.List.{flat_map}
 use Rattle.std.specs.Fmt.{signed_decimal}
 use Rattle.df_io.specs.Lines.{is_blank, is_hash}
@@ -11,9 +11,9 @@ use Rattle.df_walk.specs.declared.Rules.TheVariants.{Plain, Divisor}
 use Rattle.df_walk.specs.declared.Entry.{Entry}
 use Rattle.df_walk.specs.declared.Entry.TheVariants.{Branch, Over, Under, Settled, Residue, Cut}
 use Rattle.df_walk.specs.declared.CutRow.{CutRow}
-use Rattle.df_dossier.specs.Tokens.{◌>>?◌, ending, first_then, number_within}
-use Rattle.df_dossier.specs.Entries.{weight_of, weight_size, cut_from, entry_read, entry_of, entry_tokens, entry_text, row_tokens, residue_of}
-use Rattle.df_dossier.specs.RoundTrips.{IsWeight, IsCutRow, EachFollows, IsLogged, EntriesReadBack}
+use Rattle.df_dossier.specs.Tokens.{◌>>?◌, ending, number_within}
+use Rattle.df_dossier.specs.Entries.{weight_of, weight_size, cut_from, entry_read, entry_tokens, row_tokens}
+use Rattle.df_dossier.specs.RoundTrips.{IsWeight, EachFollows, IsLogged, EntriesReadBack}
 use Rattle.df_dossier.proofs.NumbersRead.{within_back, place_back, word_token}
 use Rattle.df_dossier.proofs.CutRows.{cut_step}
 
@@ -61,7 +61,7 @@ tokens_are Plain (Cut ws) is = absurd is
 tokens_are Divisor (Residue row m) is = (word_token (codes "residue") (omega arith) refl, (decimal_token row (omega (arith, is.0)), (decimal_token m (omega (arith, is.2)), tt)))
 tokens_are Divisor (Cut ws) is = (word_token (codes "cut") (omega arith) refl, rows_tokens [] ws.items is.1)
 
-read_back : (rules : Rules) (e : Entry) → IsLogged rules e → entry_read rules (entry_tokens e) ≡ Some e
+pub read_back : (rules : Rules) (e : Entry) → IsLogged rules e → entry_read rules (entry_tokens e) ≡ Some e
 read_back rules (Branch column) is = ap (λ o. option_map Branch (o >>? λ n. ending [] n)) (place_back column is)
 read_back rules (Over row) is = ap (λ o. option_map Over (o >>? λ n. ending [] n)) (place_back row is)
 read_back rules (Under row) is = ap (λ o. option_map Under (o >>? λ n. ending [] n)) (place_back row is)

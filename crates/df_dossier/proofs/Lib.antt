@@ -1,6 +1,7 @@
 pub mod Joins
 pub mod CutRows
 pub mod NumbersRead
+pub mod QuickLines
 pub mod EntriesBack
 pub mod PathsBack
 pub mod Rising
@@ -14,6 +15,7 @@ pub mod LinesShort
 pub mod LinesClean
 pub mod DesignsBack
 pub mod TextsBack
+pub mod DossiersBack
 pub mod RunPaths
 pub mod PutPlaces
 pub mod StreamSteps

@@ -1,5 +1,6 @@
 -- The lines of a dossier have no line feeds.
-use Rattle.std.proofs.Common.{◌≡◌, ℕ, suc, ◌<◌, ◌≤◌, ◌^◌, Bool, true, false, List, [], ◌∷◌, ◌++◌, length, map, ℤ, pos, negsuc, codes, decimal, refl, arith, tests, All}
+use Rattle.std.proofs.Common.{◌≡◌, ℕ, suc, ◌<◌, ◌≤◌, ◌^◌, Bool, true, false, List, [], ◌∷◌, ◌++◌, length, map, Option, Some, None, ℤ, pos, negsuc, codes, decimal, refl, arith, tests, All}
+use Rattle.std.specs.Prelude.{IfSome}
 use mathlib.Core.Logic.{inl, inr}
 use Rattle.std.specs.List.{flat_map, list_any}
 use Rattle.std.specs.Fmt.{signed_decimal}
@@ -19,7 +20,9 @@ use Rattle.df_dossier.specs.Entries.{entry_tokens, row_tokens}
 use Rattle.df_dossier.specs.Paths.{path_tokens, path_text, end_tokens}
 use Rattle.df_dossier.specs.RoundTrips.{IsWeight, EachFollows, IsLogged}
 use Rattle.df_dossier.specs.DossierTexts.{Logged, logged_text, head_tokens, count_tokens, start_text, spent_text, dossier_lines, IsRunPath, IsLoggedLine}
+use Rattle.df_dossier.specs.Dossiers.{Ending}
 use Rattle.df_dossier.specs.TextsBack.{IsOneLine}
+use Rattle.df_dossier.specs.DossiersBack.{ending_text, IsEnding}
 
 -- no line feed
 abbrev pub IsLine : List ℕ → Type 0
@@ -88,16 +91,30 @@ head_line Divisor = word_line (spaced (head_tokens Divisor)) refl
 count_line : (n : ℕ) → n < 2 ^ 64 → IsLine (spaced (count_tokens n))
 count_line n small = spaced_line (count_tokens n) (word_line (codes "source") refl, (number_line n small, tt))
 
-end_line : (designs nodes : ℕ) (next : WrittenPath) → designs < 2 ^ 64 → nodes < 2 ^ 64 → IsRunPath next → IsLine (spent_text designs nodes next)
-end_line designs nodes next few_designs few_nodes is =
-    line_join (spaced (end_tokens false designs nodes)) (path_text next)
-    (spaced_line (end_tokens false designs nodes) (
+counts_line : (finished : Bool) (designs nodes : ℕ) → designs < 2 ^ 64 → nodes < 2 ^ 64 → IsLine (spaced (end_tokens finished designs nodes))
+counts_line true designs nodes few_designs few_nodes =
+    spaced_line (end_tokens true designs nodes) (
+      word_line (codes "end") refl,
+      (word_line (codes "finished") refl, (word_line (codes "designs") refl, (number_line designs few_designs, (word_line (codes "nodes") refl, (number_line nodes few_nodes, tt))))),
+    )
+counts_line false designs nodes few_designs few_nodes =
+    spaced_line (end_tokens false designs nodes) (
       word_line (codes "end") refl,
       (
         word_line (codes "spent") refl,
         (word_line (codes "designs") refl, (number_line designs few_designs, (word_line (codes "nodes") refl, (number_line nodes few_nodes, (word_line (codes "next") refl, tt))))),
       ),
-    )) (path_line next is)
+    )
+
+pub spent_line : (designs nodes : ℕ) (next : WrittenPath) → designs < 2 ^ 64 → nodes < 2 ^ 64 → IsRunPath next → IsLine (spent_text designs nodes next)
+spent_line designs nodes next few_designs few_nodes is =
+    line_join (spaced (end_tokens false designs nodes)) (path_text next) (counts_line false designs nodes few_designs few_nodes) (path_line next is)
+
+pub end_line : (e : Ending WrittenPath) → IsEnding e → IsLine (ending_text e)
+end_line e is = by_next e.designs e.nodes e.next (omega (arith, is.designs)) (omega (arith, is.nodes)) is.next where
+  by_next : (designs nodes : ℕ) (next : Option WrittenPath) → designs < 2 ^ 64 → nodes < 2 ^ 64 → IfSome next IsRunPath → IsLine (ending_text record { designs = designs; nodes = nodes; next = next })
+  by_next designs nodes None few_designs few_nodes is = counts_line true designs nodes few_designs few_nodes
+  by_next designs nodes (Some next) few_designs few_nodes is = spent_line designs nodes next few_designs few_nodes is
 
 logged_line : (rules : Rules) (p : Stated) (x : Logged) → IsLoggedLine rules p x → IsOneLine x → IsLine (logged_text x)
 logged_line rules p (inl (inl e)) is one = spaced_line (entry_tokens e) (entry_lines rules e is)
@@ -112,16 +129,16 @@ join_each : (xs ys : List (List ℕ)) → Each IsLine xs → Each IsLine ys → 
 join_each [] ys left right = right
 join_each (x ∷ xs) ys left right = (left.0, join_each xs ys left.1 right)
 
-pub dossier_clean : (rules : Rules) (source : List (List ℕ)) (p : Stated) (start : WrittenPath) (log : List Logged) (designs nodes : ℕ) (next : WrittenPath)
-    → length source < 2 ^ 64 → Each IsLine source → IsRunPath start → Each (IsLoggedLine rules p) log → Each IsOneLine log → designs < 2 ^ 64 → nodes < 2 ^ 64 → IsRunPath next
-    → Each IsLine (dossier_lines rules source start log (spent_text designs nodes next))
-dossier_clean rules source p start log designs nodes next few lines is_start each one few_designs few_nodes is_next = (
+pub dossier_clean : (rules : Rules) (source : List (List ℕ)) (p : Stated) (start : WrittenPath) (log : List Logged) (end : List ℕ)
+    → length source < 2 ^ 64 → Each IsLine source → IsRunPath start → Each (IsLoggedLine rules p) log → Each IsOneLine log → IsLine end
+    → Each IsLine (dossier_lines rules source start log end)
+dossier_clean rules source p start log end few lines is_start each one is_end = (
   head_line rules,
   (
     count_line (length source) few,
-    join_each source (start_text start ∷ (map logged_text log ++ spent_text designs nodes next ∷ [])) lines (
+    join_each source (start_text start ∷ (map logged_text log ++ end ∷ [])) lines (
       line_join (codes "from") (path_text start) (word_line (codes "from") refl) (path_line start is_start),
-      log_lines rules p log (spent_text designs nodes next) each one (end_line designs nodes next few_designs few_nodes is_next),
+      log_lines rules p log end each one is_end,
     ),
   ),
 )

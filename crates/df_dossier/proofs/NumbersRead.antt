@@ -1,9 +1,8 @@
 -- Printed numbers and words, read as tokens.
-use Rattle.std.proofs.Common.{◌≡◌, ◌==◌, ℕ, zero, suc, ◌<◌, ◌≤◌, ◌^◌, Bool, true, false, not, ◌&&◌, ◌||◌, cond, leb, List, [], ◌∷◌, length, Some, decimal, refl, ap, ◌∙◌, arith, tests}
+use Rattle.std.proofs.Common.{◌≡◌, ℕ, ◌<◌, ◌≤◌, ◌^◌, Bool, true, false, not, ◌&&◌, leb, List, [], ◌∷◌, length, Some, decimal, refl, ap, ◌∙◌, arith, tests}
 use Rattle.std.specs.List.{list_all}
 use Rattle.df_io.specs.Lines.{is_blank, is_hash}
 use Rattle.df_io.specs.Joined.{Lacks, IsToken}
-use Rattle.df_io.specs.Number.{number_read}
 use Rattle.df_io.proofs.Joining.{lacks_onto}
 use Rattle.df_io.proofs.NumbersBack.{number_back}
 use Rattle.df_dossier.specs.Tokens.{number_within, within, place_of}
@@ -18,7 +17,7 @@ pub place_back : (n : ℕ) → n ≤ 4294967295 → place_of (decimal n) ≡ Som
 place_back n high = within_back 0 4294967295 n (omega arith) high (omega arith)
 
 -- a byte that may stand in a token
-abbrev is_inked : ℕ → Bool
+abbrev pub is_inked : ℕ → Bool
 is_inked b = not (is_blank b) && not (is_hash b)
 
 inked_first : (x y r : Bool) → ((not x && not y) && r) ≡ true → (x ≡ false) × ((y ≡ false) × (r ≡ true))

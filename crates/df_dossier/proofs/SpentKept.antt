@@ -1,5 +1,5 @@
 -- What a dossier states that ended spent keeps the rules of problems: its source lines are lines of the input.
-use Rattle.std.proofs.Common.{◌≡◌, ℕ, ◌+◌, ◌≤◌, Bool, true, false, cond, List, [], ◌∷◌, length, take, drop, Option, Some, None, Result, Ok, Err, nat_lt, refl, sym, ap, ◌∙◌, subst, arith}
+use Rattle.std.proofs.Common.{◌≡◌, ℕ, ◌+◌, ◌≤◌, Bool, true, false, cond, List, [], ◌∷◌, length, take, drop, Option, Some, None, Result, Ok, Err, nat_lt, sym, ap, ◌∙◌, subst, arith}
 use Rattle.std.proofs.lemmas.List.{length-take}
 use Rattle.df_io.specs.declared.bytes.TheConstants.{MOST_BYTES}
 use Rattle.df_io.specs.Lines.{lines_of}
@@ -13,8 +13,8 @@ use Rattle.df_lang.proofs.SourcesKept.{few_lines, lines_kept}
 use Rattle.df_dossier.specs.declared.judge.DossierFault.{DossierFault}
 use Rattle.df_dossier.specs.declared.judge.DossierFault.TheVariants as fault
 use Rattle.df_dossier.specs.declared.spent.Spent.{Spent}
-use Rattle.df_dossier.specs.Dossiers.{Refusal, refused, Taken, Dossier, has_tokens, said_or, first_line, head_line, count_line, from_line, log_from, start_from, stated_or, source_from, count_from, dossier_from, source_lines, whole}
-use Rattle.df_dossier.specs.Spent.{nothing_after, spent_end, spent_alone, spent_lines, spent}
+use Rattle.df_dossier.specs.Dossiers.{refused, Taken, Dossier, has_tokens, said_or, first_line, head_line, count_line, from_line, log_from, start_from, stated_or, source_from, dossier_from, source_lines, whole}
+use Rattle.df_dossier.specs.Spent.{nothing_after, spent_end, spent_alone, spent}
 
 -- lines that follow a line are no more than with it
 said_after : {A : Type 0} (f : DossierFault) (number : ℕ) (after : List (List ℕ)) (o : Option A) (t : Taken A) → said_or f number after o ≡ Ok t → t.after ≡ after

@@ -34,7 +34,7 @@ use Rattle.df_dossier.proofs.PathTests.{path_said}
 use Rattle.df_dossier.proofs.SpentSteps.{head_said, count_said, start_said, log_blank, log_passed, log_end, entry_said, design_said, end_said, begins_with, start_alone}
 
 -- the tokens of the head
-head_back : (rules : Rules) → tokens_of (spaced (head_tokens rules)) ≡ head_tokens rules
+pub head_back : (rules : Rules) → tokens_of (spaced (head_tokens rules)) ≡ head_tokens rules
 head_back Plain = tokens_back (head_tokens Plain) (word_token (codes "dossier") (omega arith) refl, (word_token (codes "1") (omega arith) refl, tt))
 head_back Divisor = tokens_back (head_tokens Divisor) (word_token (codes "dossier") (omega arith) refl, (word_token (codes "2") (omega arith) refl, tt))
 
@@ -52,11 +52,11 @@ count_first rules number n lines some small =
 abbrev with_count : List (List ℕ) → ℕ → Counted
 with_count more n = record { n = n; more = more }
 
-take_back : (xs ys : List (List ℕ)) → take (length xs) (xs ++ ys) ≡ xs
+pub take_back : (xs ys : List (List ℕ)) → take (length xs) (xs ++ ys) ≡ xs
 take_back [] ys = refl
 take_back (x ∷ xs) ys = ap (λ l. x ∷ l) (take_back xs ys)
 
-drop_back : (xs ys : List (List ℕ)) → drop (length xs) (xs ++ ys) ≡ ys
+pub drop_back : (xs ys : List (List ℕ)) → drop (length xs) (xs ++ ys) ≡ ys
 drop_back [] ys = refl
 drop_back (x ∷ xs) ys = drop_back xs ys
 
@@ -139,7 +139,7 @@ module _ (rules : Rules) (p : Stated) where
       ∙ end_said rules p number line [] (piece.End false designs nodes) (Some record { designs = designs; nodes = nodes; next = Some next }) counts (ap (option_map (λ w. record { designs = designs; nodes = nodes; next = Some w })) (path_said line next has))
 
 -- some line states a problem
-some_source : (lines : List (List ℕ)) (p : Stated) → source_lines lines ≡ Ok p → 1 ≤ length lines
+pub some_source : (lines : List (List ℕ)) (p : Stated) → source_lines lines ≡ Ok p → 1 ≤ length lines
 unfolding from_line whole_source
 some_source [] p is = absurd (cc)
 some_source (line ∷ lines) p is = omega arith

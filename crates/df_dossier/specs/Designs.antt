@@ -1,5 +1,5 @@
 -- Design lines, both ways.
-use Rattle.std.specs.Prelude.{◌==◌, ℕ, ◌+◌, ◌&&◌, Bool, true, nat_le, List, [], ◌∷◌, ◌++◌, length, if◌then◌else◌, Option, Some, None, option_map, codes, bytes_eq}
+use Rattle.std.specs.Prelude.{◌==◌, ℕ, ◌+◌, ◌&&◌, Bool, true, nat_le, List, [], ◌∷◌, ◌++◌, length, if◌then◌else◌, Option, Some, None, codes, bytes_eq}
 use Rattle.std.specs.List.{slice_split}
 use Rattle.df_io.specs.Lines.{tokens_of}
 use Rattle.df_lists.specs.NumberSets.{has_member}

@@ -1,5 +1,5 @@
 -- The pieces of lines against the grammar of whole dossiers.
-use Rattle.std.specs.Prelude.{◌≡◌, ℕ, ◌+◌, Bool, true, false, List, [], ◌∷◌, ◌++◌, length, map, Option, None, Some, ◌⊎◌, Result, Ok, Err}
+use Rattle.std.specs.Prelude.{◌≡◌, ℕ, ◌+◌, true, false, List, [], ◌∷◌, ◌++◌, length, map, Option, None, Some, ◌⊎◌, Result, Ok, Err}
 use mathlib.Core.Logic.{inl, inr}
 use Rattle.df_walk.specs.declared.Entry.{Entry}
 use Rattle.df_dossier.specs.declared.judge.Awaits.TheVariants as awaits

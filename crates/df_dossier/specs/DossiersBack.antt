@@ -1,5 +1,5 @@
 -- The text of a whole dossier, which ended or was cut, is read back: as one text, line by line, and as its parts.
-use Rattle.std.specs.Prelude.{◌≡◌, ℕ, ◌+◌, ◌≤◌, true, List, [], ◌∷◌, ◌++◌, length, map, Option, Some, None, option_map, IfSome, filter_map, ◌⊎◌, Ok}
+use Rattle.std.specs.Prelude.{◌≡◌, ℕ, ◌+◌, ◌≤◌, true, List, [], ◌∷◌, ◌++◌, length, map, Option, Some, None, option_map, is_none, IfSome, filter_map, ◌⊎◌, Ok}
 use mathlib.Core.Logic.{inl, inr}
 use Rattle.df_io.specs.Lines.{lines_of}
 use Rattle.df_io.specs.Joined.{Each, Lacks, is_line_feed, spaced, text_of}
@@ -15,9 +15,8 @@ use Rattle.df_dossier.specs.declared.judge.Piece.TheVariants as piece
 use Rattle.df_dossier.specs.Paths.{end_tokens}
 use Rattle.df_dossier.specs.Judging.{line_judged, next_of}
 use Rattle.df_dossier.specs.Designs.{design_of}
-use Rattle.df_dossier.specs.Dossiers.{Ending, Taken, Dossier, dossier_from, source_lines, whole}
+use Rattle.df_dossier.specs.Dossiers.{Ending, Dossier, dossier_from, source_lines, whole}
 use Rattle.df_dossier.specs.DossierTexts.{Logged, dossier_lines, spent_text, IsRunPath, IsLoggedLine}
-use Rattle.df_dossier.specs.DossierPieces.{end_piece}
 use Rattle.df_dossier.specs.TextsBack.{IsOneLine}
 
 -- an end line: of a finished run, or of one that was cut, with the path where the search goes on
@@ -58,10 +57,13 @@ logged_piece (inl (inl e)) = Some (piece.Entry e)
 logged_piece (inl (inr line)) = Some piece.Design
 logged_piece (inr comment) = None
 
+abbrev pub ending_piece : Ending WrittenPath → Piece
+ending_piece e = piece.End (is_none e.next) e.designs e.nodes
+
 -- the pieces of the lines of a dossier
 abbrev pub lines_pieces : Rules → List (List ℕ) → List Logged → Ending WrittenPath → List (Option Piece)
 lines_pieces rules source log end =
-    Some (piece.Head rules) ∷ Some (piece.SourceCount (length source)) ∷ (map (λ line. Some piece.SourceLine) source ++ Some piece.RunFrom ∷ (map logged_piece log ++ Some (end_piece record { designs = end.designs; nodes = end.nodes; next = option_map (λ w. tt) end.next }) ∷ []))
+    Some (piece.Head rules) ∷ Some (piece.SourceCount (length source)) ∷ (map (λ line. Some piece.SourceLine) source ++ Some piece.RunFrom ∷ (map logged_piece log ++ Some (ending_piece end) ∷ []))
 
 -- the lines of a dossier, at any place among other lines and bytes: `number` is that of the first
 pub record DossierReadsBack (rules : Rules) (source : List (List ℕ)) (p : Stated) (start : WrittenPath) (log : List Logged) (end : Ending WrittenPath) : Type 0 where

@@ -5,6 +5,7 @@ pub mod Designs
 pub mod DesignSteps
 pub mod Reads
 pub mod Judging
+pub mod QuickEntries
 pub mod RoundTrips
 pub mod DesignsBack
 pub mod Dossiers

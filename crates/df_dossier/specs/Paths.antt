@@ -1,5 +1,5 @@
 -- Paths in `from` lines and in `end` lines, both ways.
-use Rattle.std.specs.Prelude.{◌≡◌, ℕ, ◌++◌, Bool, true, false, List, [], ◌∷◌, map, if◌then◌else◌, Option, Some, None, option_map, codes, decimal, bytes_eq}
+use Rattle.std.specs.Prelude.{◌≡◌, ℕ, Bool, true, false, List, [], ◌∷◌, map, if◌then◌else◌, Option, Some, None, option_map, codes, decimal, bytes_eq}
 use Rattle.df_io.specs.Lines.{tokens_of}
 use Rattle.df_walk.specs.Paths.{WrittenPath, IsWritten}
 use Rattle.df_dossier.specs.declared.numbers.TheConstants.{MOST_COUNT}

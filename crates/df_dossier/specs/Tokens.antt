@@ -1,5 +1,5 @@
 -- Numbers as tokens of a dossier's lines.
-use Rattle.std.specs.Prelude.{ℕ, Bool, ◌&&◌, List, [], ◌∷◌, nat_le, if◌then◌else◌, Option, Some, None, option_map, option_and_then}
+use Rattle.std.specs.Prelude.{ℕ, ◌&&◌, List, [], ◌∷◌, nat_le, if◌then◌else◌, Option, Some, None, option_map, option_and_then}
 use Rattle.std.specs.List.{flat_map}
 use Rattle.df_io.specs.Number.{number_read}
 use Rattle.df_io.specs.declared.numbers.NumberRead.{NumberRead}

@@ -6,6 +6,7 @@ ghost use Rattle.df_dossier.specs.Judging.{bad as bad_is, rules_named as rules_o
 use crate::entries::read_entry;
 use crate::numbers::{MOST_COUNT, number_within};
 use crate::paths::past;
+use crate::quick::quick_entry;
 use df_io::Tokens;
 use df_lang::SourceFault;
 use df_walk::{Entry, Rules};
@@ -254,7 +255,21 @@ fn from(rules: Rules, line: &[u8]) -> Option<Judged>
     }
 }
 
+// A line of the log, or the end line. Most are entries that are read at a glance.
 fn log(rules: Rules, line: &[u8]) -> Option<Judged>
+    ensures { result ≡ line_judged (Awaits.Log rules) line.now }
+{
+    match quick_entry(line) {
+        Some(quick) => Some(Judged {
+            next: Awaits::Log(rules),
+            piece: Piece::Entry(quick.entry()),
+        }),
+        None => log_tokens(rules, line),
+    }
+}
+
+// The same, token by token.
+fn log_tokens(rules: Rules, line: &[u8]) -> Option<Judged>
     ensures { result ≡ tokens_judged (Awaits.Log rules) (tokens_of line.now) }
 {
     let mut tokens = Tokens::new(line);

@@ -3,6 +3,7 @@ ghost use Rattle.df_dossier.specs.RoundTrips.{EntriesReadBack, PathsReadBack, En
 ghost use Rattle.df_dossier.specs.DesignsBack.{DesignsReadBack};
 ghost use Rattle.df_dossier.specs.DossierTexts.{SpentReadBack};
 ghost use Rattle.df_dossier.specs.TextsBack.{TextsReadBack};
+ghost use Rattle.df_dossier.specs.DossiersBack.{DossiersReadBack};
 ghost use Rattle.df_dossier.specs.RunPaths.{PathsMayStand};
 ghost use Rattle.df_dossier.specs.SpentRules.{SpentKeepTheirRules};
 
@@ -42,6 +43,13 @@ pub fn spent_dossiers_are_read_back()
 /// The same of their text, each line ended by a line feed, where no source line, design line and comment has one.
 pub fn texts_are_read_back()
     ensures { TextsReadBack }
+{}
+
+/// A whole dossier, which finished or was cut, put together from its parts and at any place of a longer text: its bytes are
+/// its lines, the judge says of each line the piece that it is, and they are read as the dossier of these parts, up to the
+/// number of its end line.
+pub fn dossiers_are_read_back()
+    ensures { DossiersReadBack }
 {}
 
 /// A path of decisions whose length is at most `MOST_NUMBER` may stand in a dossier, as the yes columns that it has.

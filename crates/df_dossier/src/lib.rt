@@ -3,10 +3,11 @@
 //! df_system for the type of paths, and on df_lang for problems and the texts of points and blocks.
 //! The crates above write lines by the `put_` calls, with the laws `.._is_short` for their room, and
 //! read them by `LineJudge` or `LineReader`, `read_entry`, `read_path` and `read_design`, and a whole
-//! one that ended spent by `read_spent`, or from a source by `read_spent_stream`; clauses cite
-//! `specs/Entries`, `specs/Paths`, `specs/Designs`, `specs/Judging`, `specs/Pieces`, `specs/Dossiers`,
-//! `specs/DossierPieces`, `specs/Spent` and `specs/SpentStreams`. That what is written is read back
-//! are the laws `.._read_back`.
+//! one that ended spent by `read_spent`, or from a source by `read_spent_stream`; they keep source lines
+//! in a `SourceText`. Clauses cite `specs/Entries`, `specs/Paths`, `specs/Designs`, `specs/Judging`,
+//! `specs/Sources`, `specs/Pieces`, `specs/Dossiers`, `specs/DossierPieces`, `specs/DossiersBack`,
+//! `specs/Spent` and `specs/SpentStreams`. That what is written is read back are the laws
+//! `.._read_back`.
 #![tactic(auto)]
 
 mod designs;
@@ -19,6 +20,7 @@ mod numbers;
 mod paths;
 mod piece_laws;
 mod put;
+mod quick;
 mod source_text;
 mod spent;
 mod stages;
@@ -29,9 +31,9 @@ pub use df_walk::{CutRow, Entry, Rules};
 pub use entries::{MOST_ROWS, MOST_WEIGHT, read_entry};
 pub use judge::{DossierFault, LineJudge, Piece};
 pub use laws::{
-    designs_are_read_back, ends_are_read_back, entries_are_read_back, paths_are_read_back,
-    paths_may_stand, spent_dossiers_are_read_back, spent_dossiers_keep_their_rules,
-    texts_are_read_back,
+    designs_are_read_back, dossiers_are_read_back, ends_are_read_back, entries_are_read_back,
+    paths_are_read_back, paths_may_stand, spent_dossiers_are_read_back,
+    spent_dossiers_keep_their_rules, texts_are_read_back,
 };
 pub use lengths::{
     END_BYTES, ENTRY_BYTES, PATH_BYTES, block_piece_is_short, end_text_is_short,
@@ -45,6 +47,7 @@ pub use put::{
     put_branch, put_design_block, put_design_start, put_end, put_entry, put_over, put_path_column,
     put_path_start, put_residue, put_settled, put_under,
 };
+pub use source_text::SourceText;
 pub use spent::{Spent, SpentError, read_spent};
 pub use stream::{StreamError, read_spent_stream};
 

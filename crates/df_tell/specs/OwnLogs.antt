@@ -10,7 +10,6 @@ use Rattle.df_kramer_mesner.specs.OrbitSystems.{orbit_system}
 use Rattle.df_correspondence.specs.Designs.{asked}
 use Rattle.df_matrix.specs.Limits.{limit_passed}
 use Rattle.df_dossier.specs.declared.numbers.TheConstants.{MOST_COUNT}
-use Rattle.df_dossier.specs.DossiersBack.{DossiersReadBack}
 use Rattle.df_check.specs.Chains.{IsChain, designs_of}
 use Rattle.df_tell.specs.declared.run.Shown.{Shown}
 use Rattle.df_tell.specs.Run.{run_text}
@@ -60,6 +59,3 @@ pub record OwnLogsAreChains : Type 0 where
   -- of runs each by its own rules, where the walk by these comes by the path at which the run begins
   pub own_rules : (s : Stated) (runs : List ShownLeg) → AreAllowed (orbit_system s) (Some []) (legs_in runs) → AreOwnLogs s runs
       → IsChainOf s (lines_of (chain_text s (Some []) runs))
-
-abbrev pub OwnLogsIf : Type 0
-OwnLogsIf = DossiersReadBack → OwnLogsAreChains

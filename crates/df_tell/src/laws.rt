@@ -1,9 +1,11 @@
 // What is printed is read back: laws, each the contract of a function that changes nothing.
-ghost use Rattle.df_tell.specs.OwnLogs.{OwnLogsIf};
+ghost use Rattle.df_tell.specs.OwnLogs.{OwnLogsAreChains};
 ghost use Rattle.df_tell.specs.RunBack.{SpentTextsReadBack};
 
 use df_correspondence::{base_is_chosen, designs_are_solutions};
-use df_dossier::{designs_are_read_back, paths_may_stand, texts_are_read_back};
+use df_dossier::{
+    designs_are_read_back, dossiers_are_read_back, paths_may_stand, texts_are_read_back,
+};
 use df_families::vectors_pick;
 use df_kramer_mesner::{
     columns_are_sparse, entries_are_counts, orbit_systems_are_systems, orbits_are_kept,
@@ -42,7 +44,7 @@ pub fn spent_texts_are_read_back()
 /// before, with any budgets, the blocks of designs shown or not, and the last run finished. Its problem is that of the runs,
 /// and its designs are all that are asked for, in their order. So a checker of chains accepts what a search wrote.
 pub fn own_logs_are_chains()
-    ensures { OwnLogsIf }
+    ensures { OwnLogsAreChains }
 {
     runs_are_whole();
     runs_stop_first();
@@ -61,6 +63,7 @@ pub fn own_logs_are_chains()
     canonical_lines_are_lines();
     points_are_read_back();
     designs_are_read_back();
+    dossiers_are_read_back();
     paths_may_stand();
     maps_are_made();
     maps_are_groups();

@@ -1,4 +1,4 @@
-use Rattle.std.proofs.Common.{rules, ◌≡◌, ◌∷◌, ◌++◌, [], List, ℕ, Option, Err, Some, None, true, not, option_map, is_some, codes, sym, ap, ◌∙◌}
+use Rattle.std.proofs.Common.{rules, ◌≡◌, ◌∷◌, [], List, ℕ, Option, Err, Some, None, true, not, option_map, is_some, codes, sym, ap, ◌∙◌}
 use Rattle.df_io.specs.Lines.{left, tokens_of}
 use Rattle.df_lang.specs.Problems.{Stated}
 use Rattle.df_dossier.specs.declared.designs.DesignRead.TheVariants.{Bad}

@@ -1,4 +1,4 @@
-use Rattle.std.proofs.Common.{◌≡◌, ◌∷◌, length}
+use Rattle.std.proofs.Common.{◌≡◌, length}
 use Rattle.df_io.specs.Lines.{left}
 use Rattle.df_dossier.specs.Designs.{design_of}
 use Rattle.df_dossier.specs.DesignSteps.{drafted}

@@ -1,4 +1,4 @@
-use Rattle.std.proofs.Common.{◌≡◌, ◌++◌, ◌∙◌, ap, sym, length, List, ℕ, codes, arith, append_assoc, length-append}
+use Rattle.std.proofs.Common.{◌≡◌, ◌++◌, ◌∙◌, ap, sym, length, codes, arith, append_assoc, length-append}
 use Rattle.std.specs.List.{flat_map}
 use Rattle.df_dossier.specs.Entries.{row_tokens, entry_text}
 use Rattle.df_dossier.specs.Tokens.{after_spaces}

@@ -1,5 +1,4 @@
-use Rattle.std.proofs.Common.{◌≡◌, ◌+◌, ◌<◌, ◌≤◌, Some, true, sym, ap, ◌∙◌, arith}
-use Rattle.df_lists.specs.NumberSets.{with_member}
+use Rattle.std.proofs.Common.{◌+◌, ◌<◌, ◌≤◌, Some, sym, ap, ◌∙◌, arith}
 use Rattle.df_dossier.specs.Designs.{rises_from}
 use Rattle.df_dossier.specs.DesignSteps.{Drafted, least_after, with_point}
 use Rattle.df_dossier.proofs.Rising.{added_rises, added_least}

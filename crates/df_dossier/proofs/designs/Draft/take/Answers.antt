@@ -1,4 +1,4 @@
-use Rattle.std.proofs.Common.{◌≡◌, ◌∷◌, ◌++◌, [], List, ℕ, Result, IfOk, Ok, Err, Some, None, true, false, sym, ap, ◌∙◌}
+use Rattle.std.proofs.Common.{◌≡◌, Result, IfOk, Ok, Err, true, false, sym, ap, ◌∙◌}
 use Rattle.df_dossier.specs.Designs.{is_separator}
 use Rattle.df_dossier.specs.DesignSteps.{drafted}
 use Rattle.df_dossier.proofs.Drafts.{closed, not_closed, point_taken, point_refused}
