@@ -1,15 +1,12 @@
 -- Texts that are gathered one after the other.
-use Rattle.std.proofs.Common.{◌≡◌, ℕ, ◌≤◌, List, [], ◌++◌, Ok, Err, Result, refl, sym, subst, ap, ◌∙◌, arith, append-nil, append_assoc}
+use Rattle.std.proofs.Common.{◌≡◌, ℕ, List, [], ◌++◌, Ok, Err, Result, refl, sym, subst, ap, ◌∙◌, arith, append-nil, append_assoc}
 use Rattle.std.specs.declared.option.Option.{Option}
-use Rattle.std.specs.Prelude.{OnOk}
 use Rattle.std.specs.Result.{IsErr}
-use Rattle.std.specs.Io.KnownBytes.{Appends}
 use Rattle.std.proofs.KnownBytes.{Appends-nil, Appends-trans}
-use Rattle.df_io.specs.Causes.{AppendsPrefix}
 use Rattle.df_io.specs.Writing.{Writes}
 use Rattle.df_io.specs.declared.bytes.WriteFault.{WriteFault}
 use Rattle.df_io.proofs.Writing.{writes_as, writes_stopped, writes_then}
-use Rattle.df_tell.specs.Gathered.{AreGathered, Gathers}
+use Rattle.df_tell.specs.Gathered.{Gathers}
 
 -- a text is what it equals
 pub gathers_as : {K : Type 0} {w : K → Option (List ℕ)} {f : K → ℕ} {a b : K} {g h s t : List ℕ} {r : Result (Unit {0}) WriteFault} → s ≡ t → Gathers w f a b g h s r → Gathers w f a b g h t r

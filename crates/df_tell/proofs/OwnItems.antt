@@ -1,19 +1,18 @@
 -- What a log has of the steps of a run: each entry, and after a settled one the design of its solution.
-use Rattle.std.proofs.Common.{◌≡◌, ℕ, Bool, true, false, cond, List, [], ◌∷◌, ◌++◌, length, map, Option, Some, None, option_map, filter_map, inl, inr, refl, sym, ap, ◌∙◌}
+use Rattle.std.proofs.Common.{◌≡◌, ℕ, Bool, true, false, cond, List, [], ◌∷◌, ◌++◌, length, map, Option, Some, None, inl, inr, refl, ap, ◌∙◌}
 use Rattle.std.specs.List.{flat_map}
 use Rattle.std.proofs.lemmas.List.Elements.{filter_map-append}
-use Rattle.df_walk.specs.declared.Entry.{Entry}
 use Rattle.df_walk.specs.declared.Entry.TheVariants.{Branch, Over, Under, Settled, Residue, Cut}
 use Rattle.df_walk.specs.Solutions.{yes_vector}
 use Rattle.df_walk.specs.Walks.{Step, decided, solution_of, solutions_in, entries_in}
-use Rattle.df_lang.specs.Problems.{Stated, IsStated}
+use Rattle.df_lang.specs.Problems.{Stated}
 use Rattle.df_kramer_mesner.specs.OrbitSystems.{orbit_system}
 use Rattle.df_correspondence.specs.Designs.{design, base}
 use Rattle.df_dossier.specs.Designs.{design_text, design_of}
 use Rattle.df_dossier.specs.DossiersBack.{item_of, items_of}
 use Rattle.df_check.specs.Lines.{Line, entries_of, leaves_of, AreInOrder}
 use Rattle.df_tell.specs.declared.run.Shown.{Shown}
-use Rattle.df_tell.proofs.SpentRuns.{comment_of, logged_comments, logged_solution, logged_step, logged}
+use Rattle.df_tell.proofs.SpentRuns.{comment_of, logged_solution, logged_step, logged}
 
 -- the base blocks of the design of a solution, where there is one
 abbrev design_items : Stated → Option (List Bool) → List (Line (List (List ℕ)))

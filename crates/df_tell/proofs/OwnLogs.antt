@@ -1,10 +1,9 @@
 -- The joined texts of a chain of runs, as a chain of dossiers.
-use Rattle.std.proofs.Common.{◌≡◌, ℕ, ◌+◌, ◌≤◌, Bool, true, false, nat_lt, cond, List, [], ◌∷◌, ◌++◌, length, map, Option, Some, None, option_map, IfSome, Ok, refl, sym, ap, ◌∙◌, subst, arith}
-use Rattle.std.specs.List.{flat_map, AllByRecursion}
+use Rattle.std.proofs.Common.{◌≡◌, ℕ, ◌+◌, ◌≤◌, Bool, true, false, nat_lt, List, [], ◌∷◌, ◌++◌, length, map, Option, Some, None, option_map, IfSome, Ok, refl, sym, ap, ◌∙◌, subst, arith}
+use Rattle.std.specs.List.{AllByRecursion}
 use Rattle.std.proofs.lemmas.Bool.{ltb-false}
 use Rattle.std.proofs.lemmas.Grind.{flat_map-append}
 use Rattle.std.proofs.lemmas.Simd.{map-map}
-use Rattle.df_lists.specs.Membership.{In}
 use Rattle.df_lists.specs.Orders.{IsEquality}
 use Rattle.df_lists.proofs.TestLaws.{map_agree}
 use Rattle.df_subsets.specs.Blocks.{before}
@@ -13,15 +12,12 @@ use Rattle.df_subsets.specs.SetLaws.{AreSets}
 use Rattle.df_subsets.specs.SubsetLaws.{SubsetsAreAll, CandidatesAreAll}
 use Rattle.df_io.specs.Lines.{lines_of}
 use Rattle.df_walk.specs.declared.Rules.{Rules}
-use Rattle.df_walk.specs.declared.Entry.{Entry}
-use Rattle.df_walk.specs.Systems.{System, IsSystem}
 use Rattle.df_walk.specs.Solutions.{solutions, chosen_columns}
 use Rattle.df_walk.specs.Walks.{Step, solutions_in, nodes_in, entries_in}
-use Rattle.df_walk.specs.Paths.{WrittenPath, written_path}
+use Rattle.df_walk.specs.Paths.{written_path}
 use Rattle.df_walk.specs.Remains.{IsStart}
 use Rattle.df_walk.specs.Logs.{Proves}
-use Rattle.df_runs.specs.Runs.{Run, run_of}
-use Rattle.df_runs.specs.Chains.{Leg, chain_from, chain_stop, steps_of, legs_of, AreAllowed}
+use Rattle.df_runs.specs.Chains.{chain_from, chain_stop, steps_of, legs_of, AreAllowed}
 use Rattle.df_runs.specs.Statements.{RunsAreWhole, RunsStopFirst, ChainsAreLogs, ChainsAreWhole}
 use Rattle.df_lang.specs.Problems.{Stated, IsStated}
 use Rattle.df_lang.specs.Canonical.{canonical}
@@ -39,16 +35,15 @@ use Rattle.df_matrix.specs.declared.matrix.TheConstants.{MOST_COLUMNS}
 use Rattle.df_dossier.specs.declared.numbers.TheConstants.{MOST_NUMBER, MOST_COUNT}
 use Rattle.df_dossier.specs.DesignsBack.{DesignsReadBack}
 use Rattle.df_dossier.specs.RunPaths.{PathsMayStand}
-use Rattle.df_dossier.specs.Dossiers.{Ending, Taken, Dossier, dossier_from, whole}
-use Rattle.df_dossier.specs.DossierTexts.{IsRunPath, dossier_lines}
-use Rattle.df_dossier.specs.DossiersBack.{ending_text, IsEnding, items_of, dossier_of, DossiersReadBack}
+use Rattle.df_dossier.specs.Dossiers.{dossier_from, whole}
+use Rattle.df_dossier.specs.DossierTexts.{IsRunPath}
+use Rattle.df_dossier.specs.DossiersBack.{IsEnding, items_of, dossier_of, DossiersReadBack}
 use Rattle.df_check.specs.Checkers.{undecided}
-use Rattle.df_check.specs.Lines.{Line, entries_of, leaves_of, AreInOrder}
+use Rattle.df_check.specs.Lines.{leaves_of}
 use Rattle.df_check.specs.DesignLines.{blocks_of}
 use Rattle.df_check.specs.DesignLaws.{AreProof}
-use Rattle.df_check.specs.Chains.{Read, AreDossiers, GoOn, empty_path, log_of, IsChain, designs_of}
+use Rattle.df_check.specs.Chains.{Read, AreDossiers, GoOn, log_of}
 use Rattle.df_check.proofs.DesignLeaves.{chosen}
-use Rattle.df_tell.specs.declared.run.Shown.{Shown}
 use Rattle.df_tell.specs.Run.{run_text}
 use Rattle.df_tell.specs.OwnLogs.{ShownLeg, shown_in, legs_in, run_in, chain_text, AreOwnLogs, IsChainOf, OwnLogsAreChains}
 use Rattle.df_tell.proofs.RunSteps.{sols_few}

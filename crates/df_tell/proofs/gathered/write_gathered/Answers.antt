@@ -1,4 +1,3 @@
-use Rattle.std.proofs.Common.{subst, sym}
 use Rattle.df_io.proofs.Writing.{writes_as}
 use Rattle.df_tell.proofs.GatheredTexts.{gathers_written, gathers_failed}
 use Rattle.df_tell.proofs.gathered.write_gathered.Goals as goal

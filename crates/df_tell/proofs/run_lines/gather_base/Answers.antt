@@ -1,4 +1,3 @@
-use Rattle.std.proofs.Common.{codes, ap, ◌++◌, ◌∷◌, []}
 use Rattle.df_tell.specs.Run.{design_line}
 use Rattle.df_tell.proofs.GatheredTexts.{gathers_put, gathers_then, gathers_stopped, gathers_stopped_then}
 use Rattle.df_tell.proofs.run_lines.gather_base.Goals as goal
