@@ -86,7 +86,7 @@ module _ (equal : IsEquality same_list) (s : Stated) where
 
 module _ (equal : IsEquality same_list) (s : Stated) (ok : IsSystem (orbit_system s)) (pick : ArePicked before (columns_of s)) (bases : (x : List Bool) → base s (design s x) ≡ picked (columns_of s) x) (solve : asked s ≡ map (design s) (solutions (orbit_system s))) where
   -- the representatives of the columns that a vector chooses are picked by it
-  chosen : (x : List Bool) → In (solutions (orbit_system s)) x → blocks_of s (chosen_columns x) ≡ picked (columns_of s) x
+  pub chosen : (x : List Bool) → In (solutions (orbit_system s)) x → blocks_of s (chosen_columns x) ≡ picked (columns_of s) x
   chosen x i =
       let long : length x ≡ length (orbit_system s).columns = vectors_long (length (orbit_system s).columns) x (In-filter_gives (is_solution (orbit_system s)) (vectors (length (orbit_system s).columns)) x i).0 in
       let same : length (orbit_system s).columns ≡ length (columns_of s) = length-map (columns_of s) _ in

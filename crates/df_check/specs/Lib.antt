@@ -8,4 +8,6 @@ pub mod Stages
 pub mod Laws
 pub mod DesignLaws
 pub mod Chains
+pub mod Judging
+pub mod Checks
 pub mod ChainLaws

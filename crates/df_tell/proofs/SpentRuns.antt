@@ -1,5 +1,5 @@
--- The text of a spent run, as the text of a dossier's lines.
-use Rattle.std.proofs.Common.{◌≡◌, ℕ, Bool, true, false, cond, List, [], ◌∷◌, ◌++◌, length, map, Option, Some, None, codes, inl, inr, refl, sym, ap, ◌∙◌, append_assoc, append-nil}
+-- The text of a run, as the text of a dossier's lines.
+use Rattle.std.proofs.Common.{◌≡◌, ℕ, Bool, true, false, cond, List, [], ◌∷◌, ◌++◌, length, map, Option, Some, None, option_map, codes, inl, inr, refl, sym, ap, ◌∙◌, append_assoc, append-nil}
 use Rattle.std.specs.List.{flat_map}
 use Rattle.std.proofs.lemmas.Grind.{flat_map-append}
 use Rattle.std.proofs.lemmas.List.{map-append}
@@ -13,7 +13,7 @@ use Rattle.df_walk.specs.declared.Rules.{Rules}
 use Rattle.df_walk.specs.declared.Rules.TheVariants.{Plain, Divisor}
 use Rattle.df_walk.specs.declared.Entry.{Entry}
 use Rattle.df_walk.specs.Walks.{Step, solution_of, solutions_in, nodes_in}
-use Rattle.df_walk.specs.Paths.{written_path}
+use Rattle.df_walk.specs.Paths.{WrittenPath, written_path}
 use Rattle.df_runs.specs.Runs.{Run}
 use Rattle.df_lang.specs.Problems.{Stated, IsStated, IsBlock, point_count}
 use Rattle.df_lang.specs.Canonical.{canonical, block_text}
@@ -26,8 +26,10 @@ use Rattle.df_dossier.specs.Entries.{entry_text}
 use Rattle.df_dossier.specs.Paths.{path_text, end_tokens}
 use Rattle.df_dossier.specs.Designs.{design_text}
 use Rattle.df_dossier.specs.RoundTrips.{IsLogged}
-use Rattle.df_dossier.specs.DesignsBack.{DesignsReadBack}
-use Rattle.df_dossier.specs.DossierTexts.{Logged, logged_text, head_tokens, count_tokens, start_text, spent_text, dossier_lines, IsLoggedLine}
+use Rattle.df_dossier.specs.DesignsBack.{DesignReadsBack, DesignsReadBack}
+use Rattle.df_dossier.specs.Dossiers.{Ending}
+use Rattle.df_dossier.specs.DossierTexts.{Logged, logged_text, head_tokens, count_tokens, start_text, dossier_lines, IsLoggedLine}
+use Rattle.df_dossier.specs.DossiersBack.{ending_text}
 use Rattle.df_dossier.specs.TextsBack.{IsOneLine}
 use Rattle.df_tell.specs.declared.run.Shown.{Shown}
 use Rattle.df_tell.specs.Counts.{count_line}
@@ -38,20 +40,20 @@ use Rattle.df_tell.specs.Run.{head_text, source_text, from_text, design_line, bl
 abbrev logged_entry : Shown → Entry → List Logged
 logged_entry shown e = cond shown.log (inl (inl e) ∷ []) []
 
-abbrev comment_of : Stated → List ℕ → Logged
+abbrev pub comment_of : Stated → List ℕ → Logged
 comment_of s block = inr (codes " block " ++ block_text s.group block)
 
-abbrev logged_comments : Shown → Stated → List (List ℕ) → List Logged
+abbrev pub logged_comments : Shown → Stated → List (List ℕ) → List Logged
 logged_comments shown s blocks = cond shown.blocks (map (comment_of s) blocks) []
 
 abbrev logged_design : Shown → Stated → List (List ℕ) → List Logged
 logged_design shown s blocks = inl (inr (design_text s.group (base s blocks))) ∷ logged_comments shown s blocks
 
-abbrev logged_solution : Shown → Stated → Option (List Bool) → List Logged
+abbrev pub logged_solution : Shown → Stated → Option (List Bool) → List Logged
 logged_solution shown s None = []
 logged_solution shown s (Some x) = logged_design shown s (design s x)
 
-abbrev logged_step : Shown → Stated → Step → List Logged
+abbrev pub logged_step : Shown → Stated → Step → List Logged
 logged_step shown s step = logged_entry shown step.1 ++ logged_solution shown s (solution_of (orbit_system s) step)
 
 -- the lines of the steps of a run
@@ -123,41 +125,47 @@ lines_then a b = flat_map-append (λ line. line ++ 10 ∷ []) a b
 last_line : (line : List ℕ) → text_of (line ∷ []) ≡ line ++ 10 ∷ []
 last_line line = append-nil (line ++ 10 ∷ [])
 
--- the text of a run that stopped at q
-module _ (rules : Rules) (s : Stated) (shown : Shown) (p q : List Bool) (steps : List Step) where
-  abbrev designs : ℕ
-  designs = length (solutions_in (orbit_system s) steps)
+-- how a run ended that took these steps
+abbrev pub ending : Stated → List Step → Option (List Bool) → Ending WrittenPath
+ending s steps stop =
+    record { designs = length (solutions_in (orbit_system s) steps); nodes = length (nodes_in steps); next = option_map written_path stop }
 
-  abbrev nodes : ℕ
-  nodes = length (nodes_in steps)
-
+-- the text of a run that ended so
+module _ (rules : Rules) (s : Stated) (shown : Shown) (p : List Bool) (stop : Option (List Bool)) (steps : List Step) where
   abbrev end : List ℕ
-  end = spent_text designs nodes (written_path q)
+  end = ending_text (ending s steps stop)
+
+  abbrev end_bytes : List ℕ
+  end_bytes = end_text (length (solutions_in (orbit_system s) steps)) (length (nodes_in steps)) stop
 
   abbrev log : List Logged
   log = logged shown s steps
 
-  end_is : text_of (end ∷ []) ≡ end_text designs nodes (Some q)
-  end_is = last_line end ∙ append_assoc (spaced (end_tokens false designs nodes)) (path_text (written_path q)) (10 ∷ [])
+  end_is : text_of (end ∷ []) ≡ end_bytes
+  end_is = by_stop stop
+    where
+      by_stop : (o : Option (List Bool)) → text_of (ending_text (ending s steps o) ∷ []) ≡ end_text (length (solutions_in (orbit_system s) steps)) (length (nodes_in steps)) o
+      by_stop None = last_line (ending_text (ending s steps None))
+      by_stop (Some q) = last_line (ending_text (ending s steps (Some q))) ∙ append_assoc (spaced (end_tokens false (length (solutions_in (orbit_system s) steps)) (length (nodes_in steps)))) (path_text (written_path q)) (10 ∷ [])
 
-  log_is : text_of (map logged_text log ++ end ∷ []) ≡ flat_map (step_lines shown s) steps ++ end_text designs nodes (Some q)
+  log_is : text_of (map logged_text log ++ end ∷ []) ≡ flat_map (step_lines shown s) steps ++ end_bytes
   log_is = lines_then (map logged_text log) (end ∷ []) ∙ ap (λ l. l ++ text_of (end ∷ [])) (steps_texts shown s steps) ∙ ap (λ l. flat_map (step_lines shown s) steps ++ l) end_is
 
-  start_is : text_of (start_text (written_path p) ∷ (map logged_text log ++ end ∷ [])) ≡ from_text p ++ (flat_map (step_lines shown s) steps ++ end_text designs nodes (Some q))
+  start_is : text_of (start_text (written_path p) ∷ (map logged_text log ++ end ∷ [])) ≡ from_text p ++ (flat_map (step_lines shown s) steps ++ end_bytes)
   start_is = ap (λ l. (start_text (written_path p) ++ 10 ∷ []) ++ l) log_is
 
-  source_is : text_of (canonical s ++ start_text (written_path p) ∷ (map logged_text log ++ end ∷ [])) ≡ canonical_text s ++ (from_text p ++ (flat_map (step_lines shown s) steps ++ end_text designs nodes (Some q)))
+  source_is : text_of (canonical s ++ start_text (written_path p) ∷ (map logged_text log ++ end ∷ [])) ≡ canonical_text s ++ (from_text p ++ (flat_map (step_lines shown s) steps ++ end_bytes))
   source_is = lines_then (canonical s) (start_text (written_path p) ∷ (map logged_text log ++ end ∷ [])) ∙ ap (λ l. canonical_text s ++ l) start_is
 
-  pub text_is : (run : Run) → run.taken ≡ steps → run.stop ≡ Some q → text_of (dossier_lines rules (canonical s) (written_path p) log end) ≡ run_text rules s shown p run
-  text_is run taken stop =
-      let rest = from_text p ++ (flat_map (step_lines shown s) steps ++ end_text designs nodes (Some q)) in
+  pub text_is : (run : Run) → run.taken ≡ steps → run.stop ≡ stop → text_of (dossier_lines rules (canonical s) (written_path p) log end) ≡ run_text rules s shown p run
+  text_is run taken stopped =
+      let rest = from_text p ++ (flat_map (step_lines shown s) steps ++ end_bytes) in
       ap (λ l. (spaced (head_tokens rules) ++ 10 ∷ []) ++ ((spaced (count_tokens (length (canonical s))) ++ 10 ∷ []) ++ l)) source_is
       ∙ ap (λ l. l ++ ((spaced (count_tokens (length (canonical s))) ++ 10 ∷ []) ++ (canonical_text s ++ rest))) (head_texts rules)
       ∙ ap (λ l. head_text rules ++ (l ++ (canonical_text s ++ rest))) (count_texts (length (canonical s)))
       ∙ ap (λ l. head_text rules ++ l) (sym (append_assoc (count_line (codes "source ") (length (canonical s))) (canonical_text s) rest))
-      ∙ ap (λ l. head_text rules ++ (source_text s ++ (from_text p ++ (flat_map (step_lines shown s) l ++ end_text (length (solutions_in (orbit_system s) l)) (length (nodes_in l)) (Some q))))) (sym taken)
-      ∙ ap (λ o. head_text rules ++ (source_text s ++ (from_text p ++ (flat_map (step_lines shown s) run.taken ++ end_text (length (solutions_in (orbit_system s) run.taken)) (length (nodes_in run.taken)) o)))) (sym stop)
+      ∙ ap (λ l. head_text rules ++ (source_text s ++ (from_text p ++ (flat_map (step_lines shown s) l ++ end_text (length (solutions_in (orbit_system s) l)) (length (nodes_in l)) stop)))) (sym taken)
+      ∙ ap (λ o. head_text rules ++ (source_text s ++ (from_text p ++ (flat_map (step_lines shown s) run.taken ++ end_text (length (solutions_in (orbit_system s) run.taken)) (length (nodes_in run.taken)) o)))) (sym stopped)
 
 -- a line that is read as it is meant, and is one
 abbrev IsRead : Rules → Stated → Logged → Type 0
@@ -210,10 +218,14 @@ module _ (rules : Rules) (s : Stated) (is : IsStated s) (shown : Shown) (sets : 
       by_shown true = all_read blocks each
       by_shown false = tt
 
+  -- the line of a design is read as its base blocks
+  pub base_read : (x : List Bool) → DesignReadsBack s (base s (design s x))
+  base_read x = designs s is (base s (design s x)) (each_in IsHere (base s (design s x)) (base_is x))
+
   solution_read : (o : Option (List Bool)) → Each (IsRead rules s) (logged_solution shown s o)
   solution_read None = tt
   solution_read (Some x) =
-      let line = designs s is (base s (design s x)) (each_in IsHere (base s (design s x)) (base_is x)) in
+      let line = base_read x in
       (((base s (design s x), line.read), line.line), comments_read (design s x) (each_in IsHere (design s x) (block_is x)))
 
   entry_read : (e : Entry) → IsLogged rules e → Each (IsRead rules s) (logged_entry shown e)

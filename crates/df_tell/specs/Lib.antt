@@ -6,6 +6,7 @@ pub mod Gathered
 pub mod Limits
 pub mod Matrix
 pub mod Orbits
+pub mod OwnLogs
 pub mod Path
 pub mod Refusal
 pub mod Run

@@ -2,6 +2,8 @@
 //! A text has a module with its writer, and a module of specs/ of the same name with the text as a list of bytes.
 //! Each writer's one clause is `Writes`: all of the text was written, or a proper prefix of it, and the sink failed.
 //! `write_run` and `write_workload` say besides how the run ended.
+//! Two laws say that the texts of runs are read back: that of a spent run as its dossier, and those of a chain of runs with their
+//! logs as a chain that proves all designs, by the definitions of `df_dossier` and `df_check`.
 //! Laws for the rooms above: proofs/SilentRuns.
 #![tactic(auto)]
 
@@ -28,7 +30,7 @@ mod workload;
 
 pub use canonical::write_canonical;
 pub use dossier::write_dossier_refusal;
-pub use laws::spent_texts_are_read_back;
+pub use laws::{own_logs_are_chains, spent_texts_are_read_back};
 pub use limits::{Limit, write_limit};
 pub use matrix::write_matrix;
 pub use orbits::write_orbits;
