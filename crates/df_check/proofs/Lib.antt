@@ -10,3 +10,4 @@ pub mod DesignMoves
 pub mod DesignLeaves
 pub mod SignedSums
 pub mod BoundedSystems
+pub mod DossierParts

@@ -10,6 +10,7 @@
 //! design line may pass all columns. All memory is taken in `SystemChecker::new` and `Checker::new`.
 #![tactic(auto)]
 
+pub mod chain_laws;
 pub mod checker;
 mod checks;
 mod cuts;
