@@ -1,5 +1,5 @@
 -- What a dossier that is read has of its lines: its source is some of them and states its problem, and each item of its log is one.
-use Rattle.std.proofs.Common.{◌≡◌, ℕ, ◌+◌, ◌≤◌, Bool, true, false, cond, List, [], ◌∷◌, length, take, drop, Option, Some, None, option_map, ◌⊎◌, Result, Ok, Err, nat_lt, codes, refl, sym, ap, ◌∙◌, subst, arith}
+use Rattle.std.proofs.Common.{◌≡◌, ℕ, ◌+◌, ◌≤◌, Bool, true, false, cond, List, [], ◌∷◌, length, take, drop, Option, Some, None, option_map, ◌⊎◌, Result, Ok, Err, nat_lt, codes, refl, sym, ap, ◌∙◌, subst, arith, tests}
 use Rattle.std.proofs.lemmas.List.{length-take, length-drop}
 use Rattle.df_io.specs.declared.bytes.TheConstants.{MOST_BYTES}
 use Rattle.df_io.specs.Lines.{lines_of}
@@ -60,12 +60,12 @@ log_less rules p number (line ∷ lines) t h = by_line (log_less rules p (number
     by_line later false b g = omega (arith, later t g)
 
 -- what is known of a dossier of these lines, but of its source
-record Rests (lines : List (List ℕ)) (source : List (List ℕ)) (p : Stated) (t : Taken Read) : Type 0 where
+pub record Rests (lines : List (List ℕ)) (source : List (List ℕ)) (p : Stated) (t : Taken Read) : Type 0 where
   pub source_is : t.value.source ≡ source
   pub problem_is : t.value.problem ≡ p
   pub less : length t.value.log.items + length t.after + 1 ≤ length lines
 
-rests : (rules : Rules) (source : List (List ℕ)) (p : Stated) (number : ℕ) (lines : List (List ℕ)) (t : Taken Read) → start_from whole rules source p number lines ≡ Ok t → Rests lines source p t
+pub rests : (rules : Rules) (source : List (List ℕ)) (p : Stated) (number : ℕ) (lines : List (List ℕ)) (t : Taken Read) → start_from whole rules source p number lines ≡ Ok t → Rests lines source p t
 rests rules source p number lines t h =
     let start = bind_kept (first_line fault.BadHead (from_line whole) number lines) _ t h in
     let log = bind_kept (log_from whole rules p (start.0.number + 1) start.0.after) _ t start.2 in
@@ -74,29 +74,38 @@ rests rules source p number lines t h =
     let more = log_less rules p (start.0.number + 1) start.0.after log.0 log.1 in
     subst (Rests lines source p) is record { source_is = refl; problem_is = refl; less = omega (arith, first, more) }
 
--- what is known of a dossier of these lines
-pub record Parts (lines : List (List ℕ)) (t : Taken Read) : Type 0 where
+-- what is known of a dossier with so many source lines, which are the first of these lines
+pub record Sourced (n : ℕ) (lines : List (List ℕ)) (t : Taken Read) : Type 0 where
+  pub source_is : t.value.source ≡ take n lines
+  pub enough : n ≤ length lines
   pub stated : source_lines t.value.source ≡ Ok t.value.problem
-  pub few : length t.value.source ≤ length lines
   pub less : length t.value.log.items + length t.after + 1 ≤ length lines
 
-source_parts : (rules : Rules) (number n : ℕ) (lines : List (List ℕ)) (t : Taken Read) → source_from whole rules number n lines ≡ Ok t → Parts lines t
-source_parts rules number n lines t h = by_length (nat_lt (length lines) n) h
+pub source_parts : (rules : Rules) (number n : ℕ) (lines : List (List ℕ)) (t : Taken Read) → source_from whole rules number n lines ≡ Ok t → Sourced n lines t
+source_parts rules number n lines t h = by_length (nat_lt (length lines) n) refl h
   where
     stated : (r : Result Stated SourceError) (p : Stated) → stated_or number r ≡ Ok p → r ≡ Ok p
     stated (Ok q) p g = cc
     stated (Err e) p g = absurd (cc)
 
-    by_length : (b : Bool) → cond b (refused 0 fault.BadHead) (stated_or number (source_lines (take n lines)) >>= λ p. start_from whole rules (take n lines) p (number + 1 + n) (drop n lines)) ≡ Ok t → Parts lines t
-    by_length true g = absurd (cc)
-    by_length false g =
+    by_length : (b : Bool) → nat_lt (length lines) n ≡ b
+        → cond b (refused 0 fault.BadHead) (stated_or number (source_lines (take n lines)) >>= λ p. start_from whole rules (take n lines) p (number + 1 + n) (drop n lines)) ≡ Ok t → Sourced n lines t
+    by_length true is g = absurd (cc)
+    by_length false is g =
         let p = bind_kept (stated_or number (source_lines (take n lines))) _ t g in
         let rest = rests rules (take n lines) p.0 (number + 1 + n) (drop n lines) t p.2 in
         record {
+          source_is = rest.source_is;
+          enough = grind (arith, tests);
           stated = ap source_lines rest.source_is ∙ stated (source_lines (take n lines)) p.0 p.1 ∙ ap Ok (sym rest.problem_is);
-          few = omega (arith, length-take n lines, ap (λ (l : List (List ℕ)). length l) rest.source_is);
           less = omega (arith, rest.less, length-drop n lines);
         }
+
+-- what is known of a dossier of these lines
+pub record Parts (lines : List (List ℕ)) (t : Taken Read) : Type 0 where
+  pub stated : source_lines t.value.source ≡ Ok t.value.problem
+  pub few : length t.value.source ≤ length lines
+  pub less : length t.value.log.items + length t.after + 1 ≤ length lines
 
 pub dossier_parts : (number : ℕ) (lines : List (List ℕ)) (t : Taken Read) → dossier_from whole number lines ≡ Ok t → Parts lines t
 dossier_parts number lines t h =
@@ -107,7 +116,7 @@ dossier_parts number lines t h =
     let second = first_less fault.BadHead count_line (head.0.number + 1) head.0.after count.0 count.1 in
     record {
       stated = parts.stated;
-      few = omega (arith, parts.few, first, second);
+      few = omega (arith, length-take count.0.value count.0.after, ap (λ (l : List (List ℕ)). length l) parts.source_is, first, second);
       less = omega (arith, parts.less, first, second);
     }
 
