@@ -2,6 +2,7 @@
 use Rattle.std.proofs.Common.{◌≡◌, ◌≤◌, ℕ, zero, suc, ◌+◌, ◌&&◌, Bool, true, false, not, cond, nat_eq, List, [], ◌∷◌, ◌++◌, length, map, Option, Some, None, Result, Ok, Err, refl, sym, ap, ap₂, ◌∙◌, subst, arith}
 use Rattle.std.specs.List.{AllByRecursion}
 use Rattle.std.proofs.lemmas.List.{length-append, length-map}
+use Rattle.std.proofs.lemmas.Option.{option_and_then_some}
 use Rattle.df_lists.specs.Orders.{IsEquality}
 use Rattle.df_lists.proofs.SetLaws.{numbers_equal}
 use Rattle.df_io.specs.declared.bytes.TheConstants.{MOST_BYTES}
@@ -28,7 +29,7 @@ use Rattle.df_check.specs.Chains.{Read, are_blank, AreDossiers, GoOn, empty_path
 use Rattle.df_check.specs.Judging.{Runs, Running, running_on, same_path, is_place, finished_at, verdict_from, verdict}
 use Rattle.df_check.specs.ChainLaws.{AreDecided}
 use Rattle.df_check.proofs.DossierParts.{dossier_parts}
-use Rattle.df_check.proofs.Heard.{heard, heard_is, then_kept}
+use Rattle.df_check.proofs.Heard.{heard, heard_is}
 use Rattle.df_check.proofs.VerdictLines.{passed, given, ended, ended_with, after_log, next_of}
 use Rattle.df_check.proofs.VerdictParts.{placed, log_taken, after_dossier, within_limits, are_awaited, awaited_are, same_awaited}
 use Rattle.df_check.proofs.VerdictDossiers.{first_of, first_dossier, first_is, sourced, later_dossier, later_is, next_is}
@@ -99,19 +100,17 @@ module _ (equal : IsEquality same_list) where
 
   stepped : (r : Running) (t : Taken Read) (n : ℕ) → after_dossier r t ≡ Some n → Stepped r t n
   stepped r t n h =
-      let now = then_kept (placed r t.value.start) (λ now. after_log now (log_taken t)) n h in
-      let at = by_place (is_place r.place t.value.start) now.0 now.1 in
-      let log = subst (λ q. after_log q (log_taken t) ≡ Some n) at.1 now.2 in
-      let after = then_kept (given r t.value.log.items) (ended_with (log_taken t)) n log in
-      let moves = given_moves t.value.log.items r after.0 after.1 in
-      let end = subst (λ q. ended_with (log_taken t) q ≡ Some n) moves after.2 in
-      let last = then_kept (ended (moved r t.value.log.items) t.number t.value.log.end.next) (λ last. heard (verdict_from (next_of last) (t.number + 1) t.after)) n end in
-      let stops = ended_stops (moved r t.value.log.items) t.number t.value.log.end.next last.0 last.1 in
+      option_and_then_some (λ now. after_log now (log_taken t)) (placed r t.value.start) n h (λ now there log.
+      let at = by_place (is_place r.place t.value.start) now there in
+      option_and_then_some (ended_with (log_taken t)) (given r t.value.log.items) n (subst (λ q. after_log q (log_taken t) ≡ Some n) at.1 log) (λ after moves end.
+      let is = given_moves t.value.log.items r after moves in
+      option_and_then_some (λ last. heard (verdict_from (next_of last) (t.number + 1) t.after)) (ended (moved r t.value.log.items) t.number t.value.log.end.next) n (subst (λ q. ended_with (log_taken t) q ≡ Some n) is end) (λ last ends rest.
+      let stops = ended_stops (moved r t.value.log.items) t.number t.value.log.end.next last ends in
       record {
         place = place_is r.place t.value.start at.0;
         closed = stops.0;
-        rest = subst (λ q. heard (verdict_from (next_of q) (t.number + 1) t.after) ≡ Some n) stops.1 last.2;
-      } where
+        rest = subst (λ q. heard (verdict_from (next_of q) (t.number + 1) t.after) ≡ Some n) stops.1 rest;
+      }))) where
         by_place : (b : Bool) (now : Running) → passed (unless b ChainBroken) r ≡ Some now → (b ≡ true) × (now ≡ r)
         by_place true now g = (refl, cc)
         by_place false now g = absurd (cc)
@@ -144,14 +143,14 @@ module _ (equal : IsEquality same_list) where
       → ((q : Running) (t : Taken Read) → length t.after + 1 ≤ length lines → source_lines q.source ≡ Ok q.problem → ClosedWhereFinished q.place q.wants → heard (verdict_from (next_of q) (t.number + 1) t.after) ≡ Some n → Goes q (t.number + 1) t.after n)
       → source_lines r.source ≡ Ok r.problem → Goes r number lines n
   one_more r n number lines h later states =
-      let t = then_kept (heard (dossier_from whole number lines)) (later_dossier r) n h in
-      let is = heard_is (dossier_from whole number lines) t.0 t.1 in
-      let same = by_source t.0 (are_awaited r.source t.0.value.source) t.2 in
+      option_and_then_some (later_dossier r) (heard (dossier_from whole number lines)) n h (λ t read g.
+      let is = heard_is (dossier_from whole number lines) t read in
+      let same = by_source t (are_awaited r.source t.value.source) g in
       let now : Running = record r { awaited = [] } in
-      let step = stepped now t.0 n same.1 in
-      let parts = dossier_parts number lines t.0 is in
-      let goes = goes_through now t.0 n number lines is (awaited_are r.source t.0.value.source same.0) step (later (left_by now t.0) t.0 (omega (arith, parts.less)) states step.closed step.rest) in
-      record { dossiers = goes.dossiers; are = goes.are; sources = goes.sources; places = goes.places; closes = goes.closes; count = goes.count } where
+      let step = stepped now t n same.1 in
+      let parts = dossier_parts number lines t is in
+      let goes = goes_through now t n number lines is (awaited_are r.source t.value.source same.0) step (later (left_by now t) t (omega (arith, parts.less)) states step.closed step.rest) in
+      record { dossiers = goes.dossiers; are = goes.are; sources = goes.sources; places = goes.places; closes = goes.closes; count = goes.count }) where
         by_source : (t : Taken Read) (b : Bool) → (sourced b r >>? λ now. after_dossier now t) ≡ Some n → (b ≡ true) × (after_dossier (record r { awaited = [] }) t ≡ Some n)
         by_source t true g = (refl, g)
         by_source t false g = absurd (cc)
@@ -186,7 +185,7 @@ module _ (equal : IsEquality same_list) where
   -- one dossier, where those after it are answered
   dossier_heard : (r : Running) (t : Taken Read) (later : List Read) → r.place ≡ Some t.value.start → GoOn t.value.log.end.next later → is_closed (after_design_lines r.problem r.wants (t.value.log.items ++ log_of later)) ≡ true
       → (is_closed (after_design_lines r.problem (after_design_lines r.problem r.wants t.value.log.items) (log_of later)) ≡ true
-        → heard (verdict_from (next_of (left_by r t)) (t.number + 1) t.after) ≡ Some (count_on (count_on r.designs t.value.log.items) (log_of later)))
+      → heard (verdict_from (next_of (left_by r t)) (t.number + 1) t.after) ≡ Some (count_on (count_on r.designs t.value.log.items) (log_of later)))
       → after_dossier r t ≡ Some (count_on r.designs (t.value.log.items ++ log_of later))
   dossier_heard r t later place goes closes rest =
       let closed : is_closed (after_design_lines r.problem (after_design_lines r.problem r.wants t.value.log.items) (log_of later)) ≡ true = ap is_closed (sym (wants_joined r.problem t.value.log.items (log_of later) r.wants)) ∙ closes in
@@ -213,7 +212,7 @@ module _ (equal : IsEquality same_list) where
       ∙ ap (λ o. heard o >>? later_dossier r) are.1
       ∙ ap (λ b. sourced b r >>? λ now. after_dossier now t) (ap (are_awaited r.source) same ∙ same_awaited r.source)
       ∙ dossier_heard now t later (at.0 ∙ ap (λ (e : Read). Some e.start) back) goes (subst (λ (e : Read). is_closed (after_design_lines r.problem r.wants (e.log.items ++ log_of later)) ≡ true) back closes)
-        (λ closed. dossiers_heard later (left_by now t) (t.number + 1) t.after states are.3 sources.1 goes closed)
+      (λ closed. dossiers_heard later (left_by now t) (t.number + 1) t.after states are.3 sources.1 goes closed)
       ∙ ap (λ (e : Read). Some (count_on r.designs (e.log.items ++ log_of later))) are.2
 
   first_at : (t : Taken Read) (later : List Read) → source_lines t.value.source ≡ Ok t.value.problem → AreDossiers (t.number + 1) t.after later → Begins t.value later → first_dossier t ≡ Some (count_on 0 (log_of (t.value ∷ later)))
@@ -232,29 +231,27 @@ module _ (equal : IsEquality same_list) where
 
   accepted : DesignLinesCloseProofs → (lines : List (List ℕ)) (n : ℕ) → (heard (dossier_from whole 1 lines) >>? first_dossier) ≡ Some n → (c : IsChain lines) × (n ≡ count_on 0 (log_of (c.first ∷ c.later)))
   accepted closing lines n h =
-      let t = then_kept (heard (dossier_from whole 1 lines)) first_dossier n h in
-      let is = heard_is (dossier_from whole 1 lines) t.0 t.1 in
-      let source = t.0.value.source in
-      let p = t.0.value.problem in
-      let r = running_on source p in
-      let parts = dossier_parts 1 lines t.0 is in
-      let limits = by_limit (limit_passed p) r t.0 t.2 in
-      let step = stepped r t.0 n limits.1 in
-      let goes = goes_through r t.0 n 1 lines is refl step (goes_on (length t.0.after) (left_by r t.0) n (t.0.number + 1) t.0.after (omega arith) parts.stated step.closed step.rest) in
-      chain_of source p parts.stated limits.0 goes.dossiers goes.are goes.sources goes.places goes.closes goes.count
-      where
-        by_limit : (l : Option MatrixError) (r : Running) (t : Taken Read) → (within_limits l r >>? λ r. after_dossier r t) ≡ Some n → (l ≡ None) × (after_dossier r t ≡ Some n)
-        by_limit None r t g = (refl, g)
-        by_limit (Some e) r t g = absurd (cc)
+      option_and_then_some first_dossier (heard (dossier_from whole 1 lines)) n h (λ t read g.
+      let is = heard_is (dossier_from whole 1 lines) t read in
+      let r = running_on t.value.source t.value.problem in
+      let parts = dossier_parts 1 lines t is in
+      let limits = by_limit (limit_passed t.value.problem) r t g in
+      let step = stepped r t n limits.1 in
+      let goes = goes_through r t n 1 lines is refl step (goes_on (length t.after) (left_by r t) n (t.number + 1) t.after (omega arith) parts.stated step.closed step.rest) in
+      chain_of t.value.source t.value.problem parts.stated limits.0 goes.dossiers goes.are goes.sources goes.places goes.closes goes.count)
+    where
+      by_limit : (l : Option MatrixError) (r : Running) (t : Taken Read) → (within_limits l r >>? λ r. after_dossier r t) ≡ Some n → (l ≡ None) × (after_dossier r t ≡ Some n)
+      by_limit None r t g = (refl, g)
+      by_limit (Some e) r t g = absurd (cc)
 
-        chain_of : (source : List (List ℕ)) (p : Stated) → source_lines source ≡ Ok p → limit_passed p ≡ None → (ds : List Read) → AreDossiers 1 lines ds → AllByRecursion (λ (d : Read). d.source ≡ source) ds → GoOn (Some empty_path) ds
-            → is_closed (after_design_lines p (begun_on p).wants (log_of ds)) ≡ true → n ≡ count_on 0 (log_of ds) → (c : IsChain lines) × (n ≡ count_on 0 (log_of (c.first ∷ c.later)))
-        chain_of source p states within [] are sources places closes count = absurd places
-        chain_of source p states within (d ∷ later) are sources places closes count =
-            let stated : source_lines d.source ≡ Ok d.problem = subst (λ (e : Read). source_lines e.source ≡ Ok e.problem) are.2 (dossier_parts 1 lines are.0 are.1).stated in
-            let equal_or : Ok d.problem ≡ Ok p = sym stated ∙ ap source_lines sources.0 ∙ states in
-            let same : d.problem ≡ p = cc in
-            (record {
+      chain_of : (source : List (List ℕ)) (p : Stated) → source_lines source ≡ Ok p → limit_passed p ≡ None → (ds : List Read) → AreDossiers 1 lines ds → AllByRecursion (λ (d : Read). d.source ≡ source) ds → GoOn (Some empty_path) ds
+          → is_closed (after_design_lines p (begun_on p).wants (log_of ds)) ≡ true → n ≡ count_on 0 (log_of ds) → (c : IsChain lines) × (n ≡ count_on 0 (log_of (c.first ∷ c.later)))
+      chain_of source p states within [] are sources places closes count = absurd places
+      chain_of source p states within (d ∷ later) are sources places closes count =
+          let stated : source_lines d.source ≡ Ok d.problem = subst (λ (e : Read). source_lines e.source ≡ Ok e.problem) are.2 (dossier_parts 1 lines are.0 are.1).stated in
+          let equal_or : Ok d.problem ≡ Ok p = sym stated ∙ ap source_lines sources.0 ∙ states in
+          let same : d.problem ≡ p = cc in (
+            record {
               first = d;
               later = later;
               dossiers = are;
@@ -262,7 +259,9 @@ module _ (equal : IsEquality same_list) where
               sources = subst (λ s. AllByRecursion (λ (e : Read). e.source ≡ s) later) (sym sources.0) sources.1;
               places = places;
               proof = (closing d.problem (log_of (d ∷ later))).0 (subst (λ q. is_closed (after_design_lines q (begun_on q).wants (log_of (d ∷ later))) ≡ true) (sym same) closes);
-            }, count)
+            },
+            count,
+          )
 
 -- there are no more items than lines
 few_items : (ds : List Read) (number : ℕ) (lines : List (List ℕ)) → AreDossiers number lines ds → length (log_of ds) ≤ length lines
@@ -284,9 +283,9 @@ designs_counted bytes few c =
 pub chains_decided : IsEquality same_list → DesignLinesCloseProofs → (bytes : List ℕ) → length bytes ≤ MOST_BYTES → AreDecided bytes
 chains_decided equal closing bytes few = record {
   accepted = λ n h.
-    let chain = accepted equal closing (lines_of bytes) n (sym (first_is 1 (lines_of bytes) record { at = 0; source = [] }) ∙ ap heard h) in
-    (chain.0, chain.1 ∙ designs_counted bytes few chain.0);
+      let chain = accepted equal closing (lines_of bytes) n (sym (first_is 1 (lines_of bytes) record { at = 0; source = [] }) ∙ ap heard h) in
+      (chain.0, chain.1 ∙ designs_counted bytes few chain.0);
   only = λ c.
-    heard_is (verdict bytes) (length (designs_of c))
-    (first_is 1 (lines_of bytes) record { at = 0; source = [] } ∙ only equal closing (lines_of bytes) c ∙ ap Some (designs_counted bytes few c));
+      heard_is (verdict bytes) (length (designs_of c))
+      (first_is 1 (lines_of bytes) record { at = 0; source = [] } ∙ only equal closing (lines_of bytes) c ∙ ap Some (designs_counted bytes few c));
 }

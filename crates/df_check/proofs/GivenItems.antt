@@ -86,7 +86,7 @@ closed_given (inl e ∷ items) more r h = by_fault (fault_at (orbit_system r.pro
 closed_given (inr blocks ∷ items) more r h = by_fault (design_fault r.problem r.wants blocks) refl h (closed_given items more (record r { wants = after_leaf r.wants; designs = counted None r.designs })) where
   by_fault : (f : Option LogFault) → design_fault r.problem r.wants blocks ≡ f → is_closed (after_design_lines r.problem (then_wants f (after_leaf r.wants)) (items ++ more)) ≡ true
       → (is_closed (after_design_lines r.problem (after_leaf r.wants) (items ++ more)) ≡ true
-        → given (record r { wants = after_leaf r.wants; designs = counted None r.designs }) items ≡ Some (moved (record r { wants = after_leaf r.wants; designs = counted None r.designs }) items))
+      → given (record r { wants = after_leaf r.wants; designs = counted None r.designs }) items ≡ Some (moved (record r { wants = after_leaf r.wants; designs = counted None r.designs }) items))
       → (passed (design_fault r.problem r.wants blocks) (record r { wants = after_leaf r.wants; designs = counted None r.designs }) >>? λ now. given now items) ≡ Some (moved r (inr blocks ∷ items))
   by_fault None is g later =
       ap (λ f. passed f (record r { wants = after_leaf r.wants; designs = counted None r.designs }) >>? λ now. given now items) is

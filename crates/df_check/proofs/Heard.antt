@@ -12,18 +12,9 @@ pub heard_is : {A E : Type 0} (r : Result A E) (x : A) → heard r ≡ Some x �
 heard_is (Ok y) x h = cc
 heard_is (Err e) x h = absurd (cc)
 
-pub heard_then : {A B E : Type 0} (r : Result A E) (f : A → Result B E) → heard (r >>= f) ≡ (heard r >>? λ x. heard (f x))
-heard_then (Ok x) f = refl
-heard_then (Err e) f = refl
-
 pub heard_join : {A B C E : Type 0} (r : Result A E) (f : A → Result B E) (g : B → Option C) → (heard (r >>= f) >>? g) ≡ (heard r >>? λ x. heard (f x) >>? g)
 heard_join (Ok x) f g = refl
 heard_join (Err e) f g = refl
-
--- steps are joined in either way
-pub steps_join : {A B C : Type 0} (o : Option A) (f : A → Option B) (g : B → Option C) → (o >>? f >>? g) ≡ (o >>? λ x. f x >>? g)
-steps_join None f g = refl
-steps_join (Some x) f g = refl
 
 -- the steps after a value are the same where they are the same for each
 pub then_same : {A B : Type 0} (o : Option A) (f g : A → Option B) → ((x : A) → o ≡ Some x → f x ≡ g x) → (o >>? f) ≡ (o >>? g)
@@ -34,8 +25,3 @@ then_same (Some x) f g same = same x refl
 pub then_none : {A B : Type 0} (o : Option A) (f : A → Option B) → ((x : A) → o ≡ Some x → f x ≡ None) → (o >>? f) ≡ None
 then_none None f none = refl
 then_none (Some x) f none = none x refl
-
--- a value and the step after it
-pub then_kept : {A B : Type 0} (o : Option A) (f : A → Option B) (y : B) → (o >>? f) ≡ Some y → (x : A) × (o ≡ Some x) × (f x ≡ Some y)
-then_kept None f y h = absurd (cc)
-then_kept (Some x) f y h = (x, refl, h)

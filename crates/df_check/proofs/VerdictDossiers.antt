@@ -1,6 +1,7 @@
 -- What stands after a whole dossier, the first one or a later one, and after lines without tokens.
 use Rattle.std.proofs.Common.{◌≡◌, ℕ, zero, suc, ◌+◌, ◌≤◌, ◌&&◌, Bool, true, false, not, cond, nat_eq, nat_lt, nat_le, List, [], ◌∷◌, length, take, drop, Option, Some, None, option_map, Result, Ok, Err, codes, refl, sym, ap, ap₂, ◌∙◌, arith, tests}
 use Rattle.std.proofs.lemmas.List.{length-take-le}
+use Rattle.std.proofs.lemmas.Option.{option_and_then_some}
 use Rattle.df_io.specs.Lines.{tokens_of}
 use Rattle.df_io.specs.Number.{number_read}
 use Rattle.df_io.specs.declared.numbers.NumberRead.{NumberRead}
@@ -26,15 +27,14 @@ use Rattle.df_check.specs.Entries.{unless}
 use Rattle.df_check.specs.Chains.{Read, are_blank}
 use Rattle.df_check.specs.Judging.{Held, Opens, Opening, Runs, Running, Standing, running_on, ruled, held_with, after_judged, at_end, ends_with, finished_at, verdict_from}
 use Rattle.df_check.proofs.DossierParts.{rests, source_parts}
-use Rattle.df_check.proofs.Heard.{heard, heard_is, heard_join, then_same, then_none, then_kept}
+use Rattle.df_check.proofs.Heard.{heard, heard_is, heard_join, then_same, then_none}
 use Rattle.df_check.proofs.VerdictLines.{first_heard, next_of}
 use Rattle.df_check.proofs.VerdictParts.{after_dossier, starts, start_heard, sources, few_sources, within_limits, first_sources, are_awaited, awaited_are, same_awaited, later_sources}
 
 -- at least one source line is stated
 some_source : (line : List ℕ) (n : ℕ) → count_line line ≡ Some n → 1 ≤ n
 some_source line n h =
-    let rest = then_kept (past (codes "source") (tokens_of line)) _ n h in
-    by_rest rest.0 rest.2 where
+    option_and_then_some _ (past (codes "source") (tokens_of line)) n h (λ rest is g. by_rest rest g) where
       same : (more : List (List ℕ)) (m : ℕ) → ending more m ≡ Some n → m ≡ n
       same [] m g = cc
       same (token ∷ more) m g = absurd (cc)
@@ -52,10 +52,10 @@ some_source line n h =
       by_rest : (rest : List (List ℕ)) → first_then rest (λ token more. number_within 1 MOST_COUNT token >>? λ m. ending more m) ≡ Some n → 1 ≤ n
       by_rest [] g = absurd (cc)
       by_rest (token ∷ more) g =
-          let m = then_kept (number_within 1 MOST_COUNT token) _ n g in
-          let is : m.0 ≡ n = same more m.0 m.2 in
-          let low : 1 ≤ m.0 = least (number_read token) m.0 m.1 in
-          omega (arith, is, low)
+          option_and_then_some _ (number_within 1 MOST_COUNT token) n g (λ m is k.
+          let equal : m ≡ n = same more m k in
+          let low : 1 ≤ m = least (number_read token) m is in
+          omega (arith, equal, low))
 
 abbrev stands : Awaits → Held → Standing
 stands a h = record { awaits = a; held = h }
@@ -81,7 +81,7 @@ head_line_is (Runs r) number line lines rules = refl
 -- for whatever is answered after a dossier, where the number of source lines leads there
 module _ (h : Held) (more : Taken Read → Option ℕ)
     (counts : (rules : Rules) (number n : ℕ) (line : List ℕ) (lines : List (List ℕ)) → 1 ≤ n
-      → heard (after_judged (stands (awaits.Count rules) h) number line (Some (judged (awaits.Source rules n) (piece.SourceCount n))) >>= λ after. verdict_from after (number + 1) lines) ≡ (heard (source_from whole rules number n lines) >>? more)) where
+    → heard (after_judged (stands (awaits.Count rules) h) number line (Some (judged (awaits.Source rules n) (piece.SourceCount n))) >>= λ after. verdict_from after (number + 1) lines) ≡ (heard (source_from whole rules number n lines) >>? more)) where
   abbrev after_count : Rules → ℕ → ℕ → List (List ℕ) → Option ℕ
   after_count rules number n lines = heard (source_from whole rules number n lines) >>? more
 
@@ -96,9 +96,9 @@ module _ (h : Held) (more : Taken Read → Option ℕ)
       first_heard (stands (awaits.Count rules) h) fault.BadHead count_line (after_count rules) (no_end (awaits.Count rules) h fault.BadHead refl)
       (λ number line are. ap (λ ts. after_judged (stands (awaits.Count rules) h) number line (tokens_judged (awaits.Count rules) ts)) are)
       (λ number line word tokens lines are.
-        ap (λ ts. heard (after_judged (stands (awaits.Count rules) h) number line (tokens_judged (awaits.Count rules) ts) >>= λ after. verdict_from after (number + 1) lines)) are
-        ∙ by_count rules number line lines (count_of (word ∷ tokens)) (λ n is. some_source line n (ap count_of are ∙ is))
-        ∙ sym (ap (λ ts. count_of ts >>? λ n. after_count rules number n lines) are))
+      ap (λ ts. heard (after_judged (stands (awaits.Count rules) h) number line (tokens_judged (awaits.Count rules) ts) >>= λ after. verdict_from after (number + 1) lines)) are
+      ∙ by_count rules number line lines (count_of (word ∷ tokens)) (λ n is. some_source line n (ap count_of are ∙ is))
+      ∙ sym (ap (λ ts. count_of ts >>? λ n. after_count rules number n lines) are))
       number lines
       ∙ sym (heard_join (first_line fault.BadHead count_line number lines) (λ count. source_from whole rules count.number count.value count.after) more)
 
@@ -116,9 +116,9 @@ module _ (h : Held) (more : Taken Read → Option ℕ)
       first_heard (stands awaits.First h) fault.BadHead head_line after_head (no_end awaits.First h fault.BadHead refl)
       (λ number line are. ap (λ ts. after_judged (stands awaits.First h) number line (tokens_judged awaits.First ts)) are)
       (λ number line word tokens lines are.
-        ap (λ ts. heard (after_judged (stands awaits.First h) number line (tokens_judged awaits.First ts) >>= λ after. verdict_from after (number + 1) lines)) are
-        ∙ by_head number line lines (head_of (word ∷ tokens))
-        ∙ sym (ap (λ ts. head_of ts >>? λ rules. after_head number rules lines) are))
+      ap (λ ts. heard (after_judged (stands awaits.First h) number line (tokens_judged awaits.First ts) >>= λ after. verdict_from after (number + 1) lines)) are
+      ∙ by_head number line lines (head_of (word ∷ tokens))
+      ∙ sym (ap (λ ts. head_of ts >>? λ rules. after_head number rules lines) are))
       number lines
       ∙ sym (heard_join (first_line fault.BadHead head_line number lines) (λ head. count_from whole head.value (head.number + 1) head.after) more)
 
@@ -149,8 +149,8 @@ module _ (rules : Rules) (number k : ℕ) (lines : List (List ℕ)) where
   first_stated (Ok p) =
       first_within p (limit_passed p)
       ∙ then_same (heard (after_source p)) (first_of source p) first_dossier (λ t is.
-        let parts = rests rules source p (number + 1 + suc k) rest t (heard_is (after_source p) t is) in
-        sym (ap₂ (λ l q. first_of l q t) parts.source_is parts.problem_is))
+      let parts = rests rules source p (number + 1 + suc k) rest t (heard_is (after_source p) t is) in
+      sym (ap₂ (λ l q. first_of l q t) parts.source_is parts.problem_is))
 
   first_source : (b : Bool) → nat_lt (length lines) (suc k) ≡ b
       → heard (verdict_from (sources rules (suc k) (Opens record { at = number; source = [] })) (number + 1) lines) ≡ (heard (cond b (refused 0 fault.BadHead) (stated_or number (source_lines source) >>= after_source)) >>? first_dossier)
@@ -177,8 +177,8 @@ later_dossier r t = sourced (are_awaited r.source t.value.source) r >>? λ now. 
 other_source : (r : Running) (rules : Rules) (number n : ℕ) (lines : List (List ℕ)) → (n ≤ length lines → are_awaited r.source (take n lines) ≡ false) → (heard (source_from whole rules number n lines) >>? later_dossier r) ≡ None
 other_source r rules number n lines other =
     then_none (heard (source_from whole rules number n lines)) (later_dossier r) (λ t is.
-      let parts = source_parts rules number n lines t (heard_is (source_from whole rules number n lines) t is) in
-      ap (λ b. sourced b r >>? λ now. after_dossier now t) (ap (are_awaited r.source) parts.source_is ∙ other parts.enough))
+    let parts = source_parts rules number n lines t (heard_is (source_from whole rules number n lines) t is) in
+    ap (λ b. sourced b r >>? λ now. after_dossier now t) (ap (are_awaited r.source) parts.source_is ∙ other parts.enough))
 
 other_length : (source lines : List (List ℕ)) (n : ℕ) → nat_eq n (length source) ≡ false → n ≤ length lines → are_awaited source (take n lines) ≡ false
 other_length source lines n other enough = by_awaited (are_awaited source (take n lines)) refl where
@@ -204,8 +204,8 @@ module _ (r : Running) (states : source_lines r.source ≡ Ok r.problem) (rules 
   later_stated same =
       start_heard rules given (record r { awaited = [] }) (number + 1 + suc k) left
       ∙ then_same (heard (after_given r.problem)) (after_dossier (record r { awaited = [] })) (later_dossier r) (λ t is.
-        let parts = rests rules given r.problem (number + 1 + suc k) left t (heard_is (after_given r.problem) t is) in
-        sym (ap (λ b. sourced b r >>? λ now. after_dossier now t) (ap (are_awaited r.source) (parts.source_is ∙ same) ∙ same_awaited r.source)))
+      let parts = rests rules given r.problem (number + 1 + suc k) left t (heard_is (after_given r.problem) t is) in
+      sym (ap (λ b. sourced b r >>? λ now. after_dossier now t) (ap (are_awaited r.source) (parts.source_is ∙ same) ∙ same_awaited r.source)))
       ∙ sym (ap (λ s. heard (stated_or number s >>= after_given) >>? later_dossier r) (ap source_lines same ∙ states))
 
   later_given : (b : Bool) → are_awaited r.source given ≡ b → nat_lt (length lines) (suc k) ≡ false

@@ -1,5 +1,6 @@
 -- What stands after the first line with tokens, and after a log: as the grammar of dossiers has it.
 use Rattle.std.proofs.Common.{◌≡◌, ℕ, ◌+◌, Bool, true, false, cond, List, [], ◌∷◌, Option, Some, None, option_map, is_some, Result, Ok, Err, inl, inr, bytes_eq, codes, refl, sym, ap, ◌∙◌, subst}
+use Rattle.std.proofs.lemmas.Option.{option_and_then_some}
 use Rattle.std.proofs.lemmas.Slice.Eq.{bytes_eq-Decides}
 use Rattle.df_io.specs.Lines.{tokens_of}
 use Rattle.df_walk.specs.declared.Entry.{Entry}
@@ -28,7 +29,7 @@ use Rattle.df_kramer_mesner.specs.OrbitSystems.{orbit_system}
 use Rattle.df_check.specs.DesignLines.{design_fault}
 use Rattle.df_check.specs.Judging.{Held, Runs, Running, Standing, ruled, read_or, with_design, with_stop, after_judged, after_line, at_end, verdict_from}
 use Rattle.df_check.proofs.DossierParts.{ReadLog}
-use Rattle.df_check.proofs.Heard.{heard, heard_is, heard_then, steps_join, then_kept}
+use Rattle.df_check.proofs.Heard.{heard}
 
 -- where lines without tokens change nothing, and a line with tokens is read, or refused
 module _ {A : Type 0} (s : Standing) (f : DossierFault) (read : List ℕ → Option A) (more : ℕ → A → List (List ℕ) → Option ℕ)
@@ -96,13 +97,11 @@ ends_of (token ∷ rest) p h = by_word (bytes_eq token (codes "finished")) (byte
 
   by_word : (a b : Bool) → cond a (finished_of rest) (cond b (spent_of rest) None) ≡ Some p → (f : Bool) × (d : ℕ) × (n : ℕ) × (p ≡ piece.End f d n)
   by_word true b g =
-      let designs = then_kept (named_count (codes "designs") rest) _ p g in
-      let nodes = then_kept (named_count (codes "nodes") designs.0.more) _ p designs.2 in
-      last true designs.0.n nodes.0.n nodes.0.more nodes.2
+      option_and_then_some _ (named_count (codes "designs") rest) p g (λ designs is h.
+      option_and_then_some _ (named_count (codes "nodes") designs.more) p h (λ nodes are k. last true designs.n nodes.n nodes.more k))
   by_word false true g =
-      let designs = then_kept (named_count (codes "designs") rest) _ p g in
-      let nodes = then_kept (named_count (codes "nodes") designs.0.more) _ p designs.2 in
-      mapped designs.0.n nodes.0.n (past (codes "next") nodes.0.more) nodes.2
+      option_and_then_some _ (named_count (codes "designs") rest) p g (λ designs is h.
+      option_and_then_some _ (named_count (codes "nodes") designs.more) p h (λ nodes are k. mapped designs.n nodes.n (past (codes "next") nodes.more) k))
   by_word false false g = absurd (cc)
 
 -- a line that begins with `end` doesn't begin with `design`

@@ -29,7 +29,7 @@ use Rattle.df_check.specs.Entries.{unless}
 use Rattle.df_check.specs.Chains.{Read}
 use Rattle.df_check.specs.Judging.{Held, Opens, Opening, Runs, Running, Standing, running_on, limited, stated_by, ruled, read_or, is_place, with_start, held_with, after_judged, after_line, is_awaited, verdict_from}
 use Rattle.df_check.proofs.DossierParts.{ReadLog, rests, source_parts}
-use Rattle.df_check.proofs.Heard.{heard, heard_is, heard_join, then_same, then_none, then_kept}
+use Rattle.df_check.proofs.Heard.{heard, heard_join, then_none}
 use Rattle.df_check.proofs.VerdictLines.{first_heard, passed, logs_of, after_log, log_heard}
 
 -- from where a dossier begins
@@ -87,9 +87,9 @@ module _ (rules : Rules) (source : List (List ℕ)) (r : Running) where
       first_heard (starts rules r) fault.BadHead (from_line whole) more_at refl
       (λ number line are. ap (λ ts. after_judged (starts rules r) number line (tokens_judged (awaits.From rules) ts)) are)
       (λ number line word tokens lines are.
-        ap (λ ts. heard (after_judged (starts rules r) number line (tokens_judged (awaits.From rules) ts) >>= λ after. verdict_from after (number + 1) lines)) are
-        ∙ by_past number line lines (past (codes "from") (word ∷ tokens))
-        ∙ sym (ap (λ ts. (past (codes "from") ts >>? λ tokens. line_path line) >>? λ start. more_at number start lines) are))
+      ap (λ ts. heard (after_judged (starts rules r) number line (tokens_judged (awaits.From rules) ts) >>= λ after. verdict_from after (number + 1) lines)) are
+      ∙ by_past number line lines (past (codes "from") (word ∷ tokens))
+      ∙ sym (ap (λ ts. (past (codes "from") ts >>? λ tokens. line_path line) >>? λ start. more_at number start lines) are))
       number lines
       ∙ sym (heard_join (first_line fault.BadHead (from_line whole) number lines) (λ start. begun_at start.number start.value start.after) (after_dossier r))
 
@@ -148,7 +148,7 @@ first_sources rules (suc k) number (line ∷ lines) o enough =
     let next : Opening = record { at = o.at; source = o.source ++ line ∷ [] } in
     let place : number + 1 + suc k ≡ number + suc (suc k) = omega arith in
     subst (λ a. heard (held_with (Opens o) number line (judged a piece.SourceLine) >>= (λ (held : Held). Ok record { awaits = a; held = held }) >>= λ after. verdict_from after (number + 1) lines)
-      ≡ (opening (o.source ++ line ∷ take (suc k) lines) >>? λ r. heard (verdict_from (starts rules r) (number + suc (suc k)) (drop (suc k) lines)))) (after_more rules k)
+    ≡ (opening (o.source ++ line ∷ take (suc k) lines) >>? λ r. heard (verdict_from (starts rules r) (number + suc (suc k)) (drop (suc k) lines)))) (after_more rules k)
     (first_sources rules k (number + 1) lines next (omega (arith, enough))
     ∙ ap₂ (λ n source. opening source >>? λ r. heard (verdict_from (starts rules r) n (drop (suc k) lines))) place (append_assoc o.source (line ∷ []) (take (suc k) lines)))
 
@@ -187,7 +187,7 @@ later_sources rules (suc k) number (line ∷ lines) (first ∷ later) r enough l
     let place : number + 1 + suc k ≡ number + suc (suc k) = omega arith in
     let next = later_sources rules k (number + 1) lines later r (omega (arith, enough)) (omega (arith, long)) in
     subst (λ a. heard (ruled number (unless (bytes_eq line first) SourceDiffers) (record r { awaited = later }) >>= (λ now. Ok (Runs now)) >>= (λ (held : Held). Ok record { awaits = a; held = held }) >>= λ after. verdict_from after (number + 1) lines)
-      ≡ cond (bytes_eq line first && are_awaited later (take (suc k) lines)) (heard (verdict_from (starts rules (record r { awaited = [] })) (number + suc (suc k)) (drop (suc k) lines))) None) (after_more rules k)
+    ≡ cond (bytes_eq line first && are_awaited later (take (suc k) lines)) (heard (verdict_from (starts rules (record r { awaited = [] })) (number + suc (suc k)) (drop (suc k) lines))) None) (after_more rules k)
     (by_line (bytes_eq line first) (next ∙ ap (λ n. cond (are_awaited later (take (suc k) lines)) (heard (verdict_from (starts rules (record r { awaited = [] })) n (drop (suc k) lines))) None) place)) where
       by_line : (b : Bool) → heard (verdict_from (sources rules (suc k) (Runs (record r { awaited = later }))) (number + 1) lines) ≡ cond (are_awaited later (take (suc k) lines)) (heard (verdict_from (starts rules (record r { awaited = [] })) (number + suc (suc k)) (drop (suc k) lines))) None
           → heard (ruled number (unless b SourceDiffers) (record r { awaited = later }) >>= (λ now. Ok (Runs now)) >>= (λ (held : Held). Ok record { awaits = awaits.Source rules (suc k); held = held }) >>= λ after. verdict_from after (number + 1) lines)
