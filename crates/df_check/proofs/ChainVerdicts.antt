@@ -1,5 +1,5 @@
 -- An input is complete exactly where its lines are a chain: dossier by dossier.
-use Rattle.std.proofs.Common.{◌≡◌, ◌≤◌, ℕ, zero, suc, ◌+◌, ◌&&◌, Bool, true, false, not, cond, nat_eq, List, [], ◌∷◌, ◌++◌, length, map, Option, Some, None, Result, Ok, Err, refl, sym, ap, ap₂, ◌∙◌, subst, arith}
+use Rattle.std.proofs.Common.{◌≡◌, ◌≤◌, ℕ, zero, suc, ◌+◌, ◌&&◌, Bool, true, false, not, cond, nat_eq, List, [], ◌∷◌, ◌++◌, length, Option, Some, None, Ok, refl, sym, ap, ap₂, ◌∙◌, subst, arith}
 use Rattle.std.specs.List.{AllByRecursion}
 use Rattle.std.proofs.lemmas.List.{length-append, length-map}
 use Rattle.std.proofs.lemmas.Option.{option_and_then_some}
@@ -32,8 +32,8 @@ use Rattle.df_check.proofs.DossierParts.{dossier_parts}
 use Rattle.df_check.proofs.Heard.{heard, heard_is}
 use Rattle.df_check.proofs.VerdictLines.{passed, given, ended, ended_with, after_log, next_of}
 use Rattle.df_check.proofs.VerdictParts.{placed, log_taken, after_dossier, within_limits, are_awaited, awaited_are, same_awaited}
-use Rattle.df_check.proofs.VerdictDossiers.{first_of, first_dossier, first_is, sourced, later_dossier, later_is, next_is}
-use Rattle.df_check.proofs.GivenItems.{count_on, count_joined, few_leaves, leaves_counted, wants_joined, moved, given_moves, closed_given, stopped_at, ClosedWhereFinished, ended_stops, stops_ended}
+use Rattle.df_check.proofs.VerdictDossiers.{first_dossier, first_is, sourced, later_dossier, later_is, next_is}
+use Rattle.df_check.proofs.GivenItems.{count_on, count_joined, leaves_counted, wants_joined, moved, given_moves, closed_given, stopped_at, ClosedWhereFinished, ended_stops, stops_ended}
 
 abbrev path_of : ℕ → List ℕ → WrittenPath
 path_of size chosen = record { size = size; chosen = chosen }

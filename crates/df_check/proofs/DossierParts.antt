@@ -1,10 +1,9 @@
 -- What a dossier that is read has of its lines: its source is some of them and states its problem, and each item of its log is one.
-use Rattle.std.proofs.Common.{◌≡◌, ℕ, ◌+◌, ◌≤◌, Bool, true, false, cond, List, [], ◌∷◌, length, take, drop, Option, Some, None, option_map, ◌⊎◌, Result, Ok, Err, nat_lt, codes, refl, sym, ap, ◌∙◌, subst, arith, tests}
+use Rattle.std.proofs.Common.{◌≡◌, ℕ, ◌+◌, ◌≤◌, Bool, true, false, cond, List, [], ◌∷◌, length, take, drop, Option, Some, None, option_map, Result, Ok, Err, nat_lt, codes, refl, sym, ap, ◌∙◌, subst, arith, tests}
 use Rattle.std.proofs.lemmas.List.{length-take, length-drop}
 use Rattle.df_io.specs.declared.bytes.TheConstants.{MOST_BYTES}
 use Rattle.df_io.specs.Lines.{lines_of}
 use Rattle.df_walk.specs.declared.Rules.{Rules}
-use Rattle.df_walk.specs.declared.Entry.{Entry}
 use Rattle.df_walk.specs.Paths.{WrittenPath}
 use Rattle.df_lang.specs.declared.fault.SourceError.{SourceError}
 use Rattle.df_lang.specs.Problems.{Stated, IsStated}
@@ -13,7 +12,7 @@ use Rattle.df_lang.proofs.RulesKept.{bind_kept}
 use Rattle.df_lang.proofs.SourcesKept.{few_lines, lines_kept}
 use Rattle.df_dossier.specs.declared.judge.DossierFault.{DossierFault}
 use Rattle.df_dossier.specs.declared.judge.DossierFault.TheVariants as fault
-use Rattle.df_dossier.specs.Dossiers.{Refusal, refused, Taken, Dossier, Ending, Log, has_tokens, said_or, first_line, head_line, count_line, from_line, begins, end_line, item_line, item_before, log_from, start_from, stated_or, source_from, count_from, dossier_from, source_lines, whole}
+use Rattle.df_dossier.specs.Dossiers.{refused, Taken, Ending, Log, has_tokens, said_or, first_line, head_line, count_line, from_line, begins, end_line, item_line, item_before, log_from, start_from, stated_or, source_from, dossier_from, source_lines, whole}
 use Rattle.df_check.specs.Chains.{Read, IsChain}
 
 -- fewer lines follow the first one with tokens

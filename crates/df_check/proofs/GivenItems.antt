@@ -1,5 +1,5 @@
 -- What the items of a log do to what is held, and what its end does.
-use Rattle.std.proofs.Common.{◌≡◌, ℕ, ◌+◌, ◌-◌, ◌^◌, ◌≤◌, min, Bool, true, false, List, [], ◌∷◌, ◌++◌, length, Option, Some, None, inl, inr, refl, sym, ap, ◌∙◌, subst, arith}
+use Rattle.std.proofs.Common.{◌≡◌, ℕ, ◌+◌, ◌-◌, ◌≤◌, Bool, true, false, List, [], ◌∷◌, ◌++◌, length, Option, Some, None, inl, inr, refl, sym, ap, ◌∙◌, arith}
 use Rattle.std.proofs.lemmas.Bool.{true≢false}
 use Rattle.df_walk.specs.Paths.{WrittenPath}
 use Rattle.df_lang.specs.Problems.{Stated}
@@ -27,11 +27,6 @@ pub count_joined : (items more : Items) (n : ℕ) → count_on n (items ++ more)
 count_joined [] more n = refl
 count_joined (inl e ∷ items) more n = count_joined items more n
 count_joined (inr blocks ∷ items) more n = count_joined items more (counted None n)
-
-pub few_leaves : (items : Items) → length (leaves_of items) ≤ length items
-few_leaves [] = omega arith
-few_leaves (inl e ∷ items) = omega (arith, few_leaves items)
-few_leaves (inr blocks ∷ items) = omega (arith, few_leaves items)
 
 -- the count doesn't stay at its last value
 pub leaves_counted : (items : Items) (n : ℕ) → n + length items ≤ last_count → count_on n items ≡ n + length (leaves_of items)

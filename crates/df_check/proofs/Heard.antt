@@ -1,5 +1,5 @@
 -- Answers without their refusals, step after step.
-use Rattle.std.proofs.Common.{◌≡◌, Option, Some, None, Result, Ok, Err, refl, ap}
+use Rattle.std.proofs.Common.{◌≡◌, Option, Some, None, Result, Ok, Err, refl}
 use Rattle.df_lang.specs.Rules.{◌>>=◌}
 use Rattle.df_dossier.specs.Tokens.{◌>>?◌}
 

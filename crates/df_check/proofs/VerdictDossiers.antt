@@ -25,7 +25,7 @@ use Rattle.df_dossier.specs.Dossiers.{Refusal, refused, Taken, some_token, first
 use Rattle.df_check.specs.declared.LogFault.TheVariants.{SourceDiffers}
 use Rattle.df_check.specs.Entries.{unless}
 use Rattle.df_check.specs.Chains.{Read, are_blank}
-use Rattle.df_check.specs.Judging.{Held, Opens, Opening, Runs, Running, Standing, running_on, ruled, held_with, after_judged, at_end, ends_with, finished_at, verdict_from}
+use Rattle.df_check.specs.Judging.{Held, Opens, Opening, Runs, Running, Standing, running_on, ruled, after_judged, at_end, ends_with, finished_at, verdict_from}
 use Rattle.df_check.proofs.DossierParts.{rests, source_parts}
 use Rattle.df_check.proofs.Heard.{heard, heard_is, heard_join, then_same, then_none}
 use Rattle.df_check.proofs.VerdictLines.{first_heard, next_of}

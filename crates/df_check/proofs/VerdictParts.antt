@@ -1,11 +1,6 @@
 -- What stands after the parts of a dossier: its start, its source, their number and its head, as the grammar of dossiers has them.
-use Rattle.std.proofs.Common.{◌≡◌, ℕ, zero, suc, ◌+◌, ◌-◌, ◌≤◌, ◌<◌, ◌&&◌, Bool, true, false, cond, nat_eq, nat_lt, nat_le, List, [], ◌∷◌, ◌++◌, length, take, drop, Option, Some, None, option_map, Result, Ok, Err, bytes_eq, codes, refl, sym, ap, ap₂, ◌∙◌, subst, arith, tests, append_assoc}
-use Rattle.std.proofs.lemmas.List.{length-take-le}
+use Rattle.std.proofs.Common.{◌≡◌, ℕ, zero, suc, ◌+◌, ◌-◌, ◌≤◌, ◌<◌, ◌&&◌, Bool, true, false, cond, nat_eq, List, [], ◌∷◌, ◌++◌, length, take, drop, Option, Some, None, option_map, Result, Ok, Err, bytes_eq, codes, refl, sym, ap, ap₂, ◌∙◌, subst, arith, tests, append_assoc}
 use Rattle.std.proofs.lemmas.Slice.Eq.{bytes_eq-Decides}
-use Rattle.df_io.specs.Lines.{tokens_of}
-use Rattle.df_io.specs.Number.{number_read}
-use Rattle.df_io.specs.declared.numbers.NumberRead.{NumberRead}
-use Rattle.df_io.specs.declared.numbers.NumberRead.TheVariants.{Value, NotDigits, TooLarge}
 use Rattle.df_walk.specs.declared.Rules.{Rules}
 use Rattle.df_walk.specs.Paths.{WrittenPath}
 use Rattle.df_lang.specs.declared.fault.SourceError.{SourceError}
@@ -13,24 +8,21 @@ use Rattle.df_lang.specs.Problems.{Stated}
 use Rattle.df_lang.specs.Rules.{◌>>=◌}
 use Rattle.df_matrix.specs.declared.matrix.MatrixError.{MatrixError}
 use Rattle.df_matrix.specs.Limits.{limit_passed}
-use Rattle.df_dossier.specs.declared.numbers.TheConstants.{MOST_COUNT}
 use Rattle.df_dossier.specs.declared.judge.Awaits.TheVariants as awaits
-use Rattle.df_dossier.specs.declared.judge.Judged.{Judged}
-use Rattle.df_dossier.specs.declared.judge.DossierFault.{DossierFault}
 use Rattle.df_dossier.specs.declared.judge.DossierFault.TheVariants as fault
 use Rattle.df_dossier.specs.declared.judge.Piece.TheVariants as piece
-use Rattle.df_dossier.specs.Tokens.{◌>>?◌, first_then, ending, within, number_within}
+use Rattle.df_dossier.specs.Tokens.{◌>>?◌}
 use Rattle.df_dossier.specs.Paths.{past}
-use Rattle.df_dossier.specs.Judging.{judged, judged_or, bad, after_source, tokens_judged, head_of, count_of}
-use Rattle.df_dossier.specs.Dossiers.{Refusal, refused, Taken, Log, Dossier, first_line, head_line, count_line, from_line, log_from, start_from, stated_or, source_from, count_from, dossier_from, line_path, source_lines, whole}
+use Rattle.df_dossier.specs.Judging.{judged, judged_or, after_source, tokens_judged}
+use Rattle.df_dossier.specs.Dossiers.{Refusal, Taken, Log, first_line, from_line, log_from, start_from, line_path, source_lines, whole}
 use Rattle.df_check.specs.declared.LogFault.{LogFault}
 use Rattle.df_check.specs.declared.LogFault.TheVariants.{ChainBroken, SourceDiffers}
 use Rattle.df_check.specs.Entries.{unless}
 use Rattle.df_check.specs.Chains.{Read}
-use Rattle.df_check.specs.Judging.{Held, Opens, Opening, Runs, Running, Standing, running_on, limited, stated_by, ruled, read_or, is_place, with_start, held_with, after_judged, after_line, is_awaited, verdict_from}
-use Rattle.df_check.proofs.DossierParts.{ReadLog, rests, source_parts}
+use Rattle.df_check.specs.Judging.{Held, Opens, Opening, Runs, Running, Standing, running_on, limited, stated_by, ruled, read_or, is_place, with_start, held_with, after_judged, is_awaited, verdict_from}
+use Rattle.df_check.proofs.DossierParts.{ReadLog}
 use Rattle.df_check.proofs.Heard.{heard, heard_join, then_none}
-use Rattle.df_check.proofs.VerdictLines.{first_heard, passed, logs_of, after_log, log_heard}
+use Rattle.df_check.proofs.VerdictLines.{first_heard, passed, after_log, log_heard}
 
 -- from where a dossier begins
 abbrev pub placed : Running → WrittenPath → Option Running
