@@ -19,7 +19,7 @@ use Rattle.df_dossier.specs.Entries.{entry_read}
 use Rattle.df_dossier.specs.Paths.{past}
 use Rattle.df_dossier.specs.Judging.{judged, judged_or, named_count, finished_of, spent_of, end_of, tokens_judged}
 use Rattle.df_dossier.specs.Designs.{design_of}
-use Rattle.df_dossier.specs.Dossiers.{Refusal, Taken, Ending, Log, some_token, said_or, first_line, ending_by, item_or, item_before, log_from, line_path, whole}
+use Rattle.df_dossier.specs.Dossiers.{Refusal, Taken, Ending, some_token, said_or, first_line, ending_by, item_or, item_before, log_from, line_path, whole}
 use Rattle.df_check.specs.declared.LogFault.{LogFault}
 use Rattle.df_check.specs.declared.LogFault.TheVariants.{OpenAtEnd}
 use Rattle.df_check.specs.Entries.{unless}

@@ -14,7 +14,7 @@ use Rattle.df_dossier.specs.declared.judge.Piece.TheVariants as piece
 use Rattle.df_dossier.specs.Tokens.{◌>>?◌}
 use Rattle.df_dossier.specs.Paths.{past}
 use Rattle.df_dossier.specs.Judging.{judged, judged_or, after_source, tokens_judged}
-use Rattle.df_dossier.specs.Dossiers.{Refusal, Taken, Log, first_line, from_line, log_from, start_from, line_path, source_lines, whole}
+use Rattle.df_dossier.specs.Dossiers.{Refusal, Taken, first_line, from_line, log_from, start_from, line_path, source_lines, whole}
 use Rattle.df_check.specs.declared.LogFault.{LogFault}
 use Rattle.df_check.specs.declared.LogFault.TheVariants.{ChainBroken, SourceDiffers}
 use Rattle.df_check.specs.Entries.{unless}
