@@ -10,3 +10,11 @@ pub mod DesignMoves
 pub mod DesignLeaves
 pub mod SignedSums
 pub mod BoundedSystems
+pub mod DossierParts
+pub mod Heard
+pub mod VerdictLines
+pub mod VerdictParts
+pub mod VerdictDossiers
+pub mod GivenItems
+pub mod ChainVerdicts
+pub mod LimitsTold

@@ -9,7 +9,7 @@ use Rattle.df_matrix.specs.declared.matrix.MatrixError.{MatrixError}
 use Rattle.df_matrix.specs.Limits.{limit_passed}
 use Rattle.df_check.specs.Lines.{leaves_of}
 use Rattle.df_check.specs.Chains.{IsChain, designs_of, log_of}
-use Rattle.df_check.specs.Judging.{Refused, Above, verdict}
+use Rattle.df_check.specs.Judging.{Above, verdict}
 
 -- the designs of a chain are those that its problem asks for, each once and nothing else
 abbrev pub ChainsListAllDesigns : Type 0
