@@ -1,5 +1,5 @@
 -- Chains of searches: the text of a spent one is read back, and so the next one goes on where it stopped.
-use Rattle.std.proofs.Common.{◌≡◌, ℕ, ◌+◌, ◌*◌, ◌≤◌, Bool, true, false, nat_lt, cond, List, [], ◌∷◌, ◌++◌, length, map, Option, Some, None, Ok, refl, sym, ap, ◌∙◌, subst, arith}
+use Rattle.std.proofs.Common.{◌≡◌, ℕ, ◌≤◌, Bool, true, false, nat_lt, cond, List, [], ◌∷◌, ◌++◌, length, map, Option, Some, None, refl, sym, ap, ◌∙◌, subst, arith}
 use Rattle.std.specs.Prelude.{◌==◌}
 use Rattle.std.specs.Option.{option_and_then, option_map}
 use Rattle.std.proofs.lemmas.Bool.{ltb-false}
@@ -13,8 +13,7 @@ use Rattle.df_walk.specs.Paths.{IsNode, path_of, written_path, rest}
 use Rattle.df_walk.specs.Remains.{IsStart}
 use Rattle.df_walk.specs.LawStatements.{PathsAreRead}
 use Rattle.df_walk.proofs.NodeVisits.{start_of}
-use Rattle.df_runs.specs.Runs.{Run, run_of, rest_at, load_at, EndsAt, IsRunFrom}
-use Rattle.df_runs.specs.Chains.{chain_run, legs_of}
+use Rattle.df_runs.specs.Runs.{run_of, rest_at, EndsAt, IsRunFrom}
 use Rattle.df_runs.specs.Statements.{RunsAreWhole, ChainsAreRuns}
 use Rattle.df_lang.specs.Problems.{Stated, IsStated, point_count}
 use Rattle.df_lang.specs.RulesLaw.{SourcesKeepTheirRules}
@@ -22,24 +21,21 @@ use Rattle.df_kramer_mesner.specs.Laws.{OrbitSystemsAreSystems}
 use Rattle.df_kramer_mesner.specs.OrbitSystems.{orbit_system, columns_of}
 use Rattle.df_correspondence.specs.Designs.{asked, design}
 use Rattle.df_correspondence.specs.Laws.{DesignsAreSolutions}
-use Rattle.df_matrix.specs.Limits.{block_count, only_size, passed_by, or_else, subset_limit_of, subset_limit, column_limit, entry_limit, limit_passed}
+use Rattle.df_matrix.specs.Limits.{block_count, only_size, passed_by, or_else, subset_limit_of, column_limit, entry_limit, limit_passed}
 use Rattle.df_matrix.specs.declared.matrix.MatrixError.{MatrixError}
 use Rattle.df_matrix.specs.declared.matrix.MatrixError.TheVariants as matrix
 use Rattle.df_matrix.specs.declared.matrix.TheConstants.{MOST_COLUMNS}
 use Rattle.df_orbits.specs.declared.orbits.OrbitError.TheVariants as orbits
 use Rattle.df_search.specs.Reasons.{PathsHaveReasons}
 use Rattle.df_design.specs.RemainingDesigns.{designs_from}
-use Rattle.df_dossier.specs.declared.numbers.TheConstants.{MOST_NUMBER, MOST_COUNT}
-use Rattle.df_dossier.specs.Spent.{spent}
 use Rattle.df_dossier.specs.SpentRules.{SpentKeepTheirRules}
 use Rattle.df_dossier.specs.declared.spent.Spent.{Spent}
 use Rattle.df_tell.specs.RunBack.{SpentTextsReadBack}
-use Rattle.df_tell.specs.Run.{run_text}
 use Rattle.df_words.specs.declared.command.Options.{Options}
 use Rattle.df_words.specs.declared.table.TheConstants.{MOST_BUDGET}
 use Rattle.df_run.specs.Answers.{Answer, answer, answer_to, answer_spent, within, at_node, shown_by, search_answer, run_answer}
 use Rattle.df_run.specs.Chains.{and_resumed, is_spent, searches, budgets_of, AreBudgets, all_steps, last_stop, designs_after, IsChain, ChainsAreAnswered}
-use Rattle.df_run.specs.Headline.{designs_in, nodes_from}
+use Rattle.df_run.specs.Headline.{designs_in}
 use Rattle.df_run.specs.Limits.{limit_of, matrix_limit, path_refusal}
 use Rattle.df_run.specs.declared.tasks.Task.TheVariants.{Source, Stream}
 use Rattle.df_run.specs.declared.tasks.SourceTask.TheVariants.{Solve}

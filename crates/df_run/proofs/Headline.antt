@@ -45,7 +45,7 @@ use Rattle.df_run.specs.Endings.{EndsAs, Answers, IsUnreadByWork}
 use Rattle.df_run.specs.Headline.{Headline, IsAccepted, IsRefused, IsFinished, IsStopped, IsSolved, IsSpent, IsResumed, IsResumedSpent, IsWorked, IsWorkedSpent}
 use Rattle.df_run.specs.Streams.{Incoming, Outgoing}
 use Rattle.df_run.specs.Tasks.{task_of}
-use Rattle.df_run.specs.Readings.{IsUnread, LeavesInput}
+use Rattle.df_run.specs.Readings.{LeavesInput}
 use Rattle.df_run.specs.Workloads.{workload_source}
 use Rattle.df_run.specs.declared.statuses.Status.{Status}
 use Rattle.df_run.specs.declared.statuses.Status.TheVariants as ends

@@ -12,7 +12,6 @@ use Rattle.df_search.specs.declared.Why.{Why}
 use Rattle.df_search.specs.Resumptions.{IsWhy}
 use Rattle.df_search.specs.Reasons.{why_no_node, PathsHaveReasons}
 use Rattle.df_tell.specs.Path.{path_refusal_text}
-use Rattle.df_tell.specs.declared.path.PathRefusal.{PathRefusal}
 use Rattle.df_tell.specs.declared.path.PathRefusal.TheVariants.{Long, NoNode}
 use Rattle.df_run.specs.Limits.{path_refusal}
 

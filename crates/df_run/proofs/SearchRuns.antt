@@ -1,14 +1,13 @@
 -- What the run of a search from a path says of the designs that a problem asks for.
-use Rattle.std.proofs.Common.{◌≡◌, ℕ, ◌+◌, ◌≤◌, ◌<◌, Bool, false, List, [], ◌∷◌, ◌++◌, length, map, Option, Some, None, refl, sym, ap, ◌∙◌, subst, arith}
+use Rattle.std.proofs.Common.{◌≡◌, ℕ, ◌+◌, ◌≤◌, ◌<◌, Bool, false, List, [], ◌++◌, length, map, Option, Some, None, sym, ap, ◌∙◌, subst, arith}
 use Rattle.std.specs.List.{flat_map}
 use Rattle.std.specs.Io.KnownBytes.{Appends}
 use Rattle.std.proofs.lemmas.List.{append-nil, map-append, length-map}
 use Rattle.df_walk.specs.declared.Rules.{Rules}
-use Rattle.df_walk.specs.declared.Rules.TheVariants.{Divisor}
 use Rattle.df_walk.specs.Systems.{System}
 use Rattle.df_walk.specs.Solutions.{solutions}
 use Rattle.df_walk.specs.Walks.{solutions_in, nodes_in}
-use Rattle.df_walk.specs.Paths.{rest, load, IsNode}
+use Rattle.df_walk.specs.Paths.{rest, IsNode}
 use Rattle.df_walk.specs.Remains.{IsStart}
 use Rattle.df_walk.proofs.RestSolutions.{rest_all}
 use Rattle.df_runs.specs.Runs.{Run, rest_at, load_at, EndsAt, IsRunFrom}

@@ -1,5 +1,5 @@
 -- What a workload answers, and what that says of the designs of its problem.
-use Rattle.std.proofs.Common.{◌≡◌, ℕ, ◌+◌, ◌≤◌, ◌<◌, Bool, List, [], length, Option, Some, None, Ok, Err, Result, IfOk, refl, sym, ap, ◌∙◌, subst, inl, inr, arith, length-append}
+use Rattle.std.proofs.Common.{◌≡◌, ℕ, ◌≤◌, Bool, List, [], length, Option, Some, None, Ok, Err, Result, IfOk, refl, sym, ap, ◌∙◌, subst, inl, inr, arith, length-append}
 use Rattle.std.specs.Prelude.{◌⊎◌}
 use Rattle.std.specs.Io.KnownBytes.{Appends}
 use Rattle.std.proofs.lemmas.List.{length-map}
@@ -24,9 +24,9 @@ use Rattle.df_tell.specs.declared.run.RunEnd.{RunEnd}
 use Rattle.df_words.specs.CommandLines.{IsCommandLine}
 use Rattle.df_words.specs.declared.command.Command.{Command}
 use Rattle.df_words.specs.declared.table.TheConstants.{DEFAULT_BUDGET, MOST_WORKLOAD}
-use Rattle.df_run.specs.Answers.{Answer, answer, answer_work, answer_worked, work_answer, within, stop_status}
+use Rattle.df_run.specs.Answers.{Answer, answer, answer_work, work_answer, within, stop_status}
 use Rattle.df_run.specs.Endings.{Replies, RepliesOr, Answers, EndsAs}
-use Rattle.df_run.specs.Headline.{designs_in, nodes_from, work_line, IsWorked, IsWorkedSpent}
+use Rattle.df_run.specs.Headline.{designs_in, work_line, IsWorked, IsWorkedSpent}
 use Rattle.df_run.specs.Limits.{matrix_limit}
 use Rattle.df_run.specs.Readings.{IsUnread, LeavesInput}
 use Rattle.df_run.specs.Statuses.{ran_status}

@@ -1,5 +1,5 @@
 -- Chains of searches: a first one, and others that each go on with the text which the one before wrote, as long as a budget was spent.
-use Rattle.std.specs.Prelude.{◌≡◌, ◌↔◌, ℕ, ◌+◌, ◌≤◌, Bool, true, false, List, [], ◌∷◌, ◌++◌, length, map, if◌then◌else◌, Option, Some, None, Ok}
+use Rattle.std.specs.Prelude.{◌≡◌, ℕ, ◌+◌, ◌≤◌, Bool, true, false, List, [], ◌∷◌, ◌++◌, length, map, if◌then◌else◌, Option, Some, None, Ok}
 use Rattle.std.specs.List.{AllByRecursion}
 use Rattle.df_walk.specs.declared.Rules.{Rules}
 use Rattle.df_walk.specs.declared.Rules.TheVariants.{Divisor}
@@ -9,7 +9,7 @@ use Rattle.df_walk.specs.Paths.{IsNode, path_of}
 use Rattle.df_runs.specs.Runs.{run_of, load_at}
 use Rattle.df_runs.specs.Chains.{chain_from, chain_stop, chain_run, steps_of, legs_of}
 use Rattle.df_io.specs.declared.bytes.TheConstants.{MOST_BYTES}
-use Rattle.df_lang.specs.Problems.{Stated, IsStated}
+use Rattle.df_lang.specs.Problems.{Stated}
 use Rattle.df_lang.specs.Sources.{source}
 use Rattle.df_kramer_mesner.specs.OrbitSystems.{orbit_system}
 use Rattle.df_correspondence.specs.Designs.{asked}
