@@ -1,5 +1,5 @@
 -- The lines of dossiers in their order: what may come next, and what a line is.
-use Rattle.std.specs.Prelude.{◌==◌, ℕ, ◌-◌, true, false, List, [], ◌∷◌, if◌then◌else◌, Option, Some, None, option_map, codes, bytes_eq}
+use Rattle.std.specs.Prelude.{◌==◌, ℕ, ◌-◌, Bool, true, false, List, [], ◌∷◌, if◌then◌else◌, Option, Some, None, option_map, codes, bytes_eq}
 use Rattle.df_io.specs.Lines.{tokens_of}
 use Rattle.df_walk.specs.declared.Rules.{Rules}
 use Rattle.df_walk.specs.declared.Rules.TheVariants.{Plain, Divisor}

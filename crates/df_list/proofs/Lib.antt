@@ -1,2 +1,3 @@
 pub mod FaultLengths
 pub mod Lengths
+pub mod ListingEvents

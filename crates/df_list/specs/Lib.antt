@@ -1,3 +1,4 @@
 pub mod FaultTexts
+pub mod Listings
 pub mod LogFaultTexts
 pub mod TableTexts
