@@ -1,42 +1,25 @@
--- What a part of the judging gives, carried on to the whole line.
-use Rattle.std.proofs.Common.{◌≡◌, ℕ, List, Option, Some, None, Result, Ok, Err, option_map, refl, sym, ap, subst, ◌∙◌}
+-- What a line moves, once the first source is whole: from what its parts are answered to what is meant.
+use Rattle.std.proofs.Common.{◌≡◌, ℕ, List, Option, Some, None, Result, Ok, refl, sym, ap, subst, ◌∙◌}
 use Rattle.df_walk.specs.declared.Entry.{Entry}
 use Rattle.df_walk.specs.declared.Entry.TheVariants as entry
 use Rattle.df_lang.specs.Problems.{Stated}
 use Rattle.df_lang.specs.Rules.{◌>>=◌}
 use Rattle.df_kramer_mesner.specs.OrbitSystems.{orbit_system}
-use Rattle.df_dossier.specs.declared.judge.Awaits.{Awaits}
 use Rattle.df_dossier.specs.declared.judge.DossierFault.TheVariants as fault
-use Rattle.df_dossier.specs.declared.judge.Judged.{Judged}
-use Rattle.df_dossier.specs.declared.judge.Piece.{Piece}
 use Rattle.df_dossier.specs.declared.judge.Piece.TheVariants as piece
 use Rattle.df_dossier.specs.Designs.{design_of}
-use Rattle.df_dossier.specs.Judging.{next_of}
 use Rattle.df_check.specs.declared.Fed.{Fed}
 use Rattle.df_check.specs.declared.Fed.TheVariants.{Ok as Passed}
 use Rattle.df_check.specs.declared.LogFault.{LogFault}
 use Rattle.df_check.specs.declared.stop.Stop.{Stop}
-use Rattle.df_check.specs.declared.stop.Stop.TheVariants as stop
 use Rattle.df_check.specs.Checkers.{Wants, fault_at, after_entry, answer_to, after_leaf, told, then_wants, counted}
 use Rattle.df_check.specs.DesignLines.{DesignChecking, design_fault}
-use Rattle.df_check.specs.Judging.{Refused, Running, Held, Standing, Runs, read_or, ruled, with_entry, with_design, runs_with, after_judged}
-use Rattle.df_check.specs.Stops.{Stops, Moves, fault_in}
-
--- where a part stops, all that comes after it stops so
-pub stops_then : {A B : Type 0} (m : Result A Refused) (f : A → Result B Refused) (s : Stop) → Stops m s → Stops (m >>= f) s
-stops_then m f (stop.BadLine line fault) is = ap (λ r. r >>= f) is
-stops_then m f (stop.BadLog line fault) is = ap (λ r. r >>= f) is
-stops_then m f (stop.Above line e) is = ap (λ r. r >>= f) is
-stops_then m f stop.OutOfMemory is = is
+use Rattle.df_check.specs.Judging.{Refused, Running, read_or, ruled, with_entry, with_design, runs_with}
+use Rattle.df_check.specs.Stops.{Moves, fault_in}
 
 -- what comes after a value that is read
 pub moves_then : {A B : Type 0} (m : Result A Refused) (f : A → Result B Refused) (x : A) (new : B) (r : Result (Unit {0}) Stop) → m ≡ Ok x → Moves (f x) new r → Moves (m >>= f) new r
 moves_then m f x new r is moved = subst (λ t. Moves (t >>= f) new r) (sym is) moved
-
--- a state that is put into a larger one
-pub moves_into : {A B : Type 0} (m : Result A Refused) (into : A → B) (new : A) (r : Result (Unit {0}) Stop) → Moves m new r → Moves (m >>= λ x. Ok (into x)) (into new) r
-moves_into m into new (Ok done) is = ap (λ r. r >>= λ x. Ok (into x)) is
-moves_into m into new (Err s) is = stops_then m (λ x. Ok (into x)) s is
 
 -- the fault that a checker answers to an entry, and to a design line
 pub fault_fed : (f : Option LogFault) (e : Entry) → fault_in (told f (answer_to e)) ≡ f
@@ -86,7 +69,7 @@ pub entry_moves : (old now : Running) (k : DesignChecking) (p : Stated) (number 
 entry_moves old now k p number e fed f result same keeps answers fed_is is moves =
     let faults : f ≡ fault_at (orbit_system old.problem) old.wants e = is ∙ ap fault_in answers ∙ fault_fed (fault_at (orbit_system p) old.wants e) e ∙ ap (λ s. fault_at (orbit_system s) old.wants e) keeps in
     let new : k ≡ record { problem = p; wants = then_wants f (after_entry old.wants e); designs = old.designs } =
-        fed_is ∙ ap (λ (s : Stated). record { problem = p; wants = then_wants (fault_at (orbit_system s) old.wants e) (after_entry old.wants e); designs = old.designs }) keeps ∙ ap (λ g. record { problem = p; wants = then_wants g (after_entry old.wants e); designs = old.designs }) (sym faults) in
+    fed_is ∙ ap (λ (s : Stated). record { problem = p; wants = then_wants (fault_at (orbit_system s) old.wants e) (after_entry old.wants e); designs = old.designs }) keeps ∙ ap (λ g. record { problem = p; wants = then_wants g (after_entry old.wants e); designs = old.designs }) (sym faults) in
     subst (λ (r : Running). Moves (with_entry r number e) (record old { wants = k.wants; designs = k.designs }) result) same
     (subst (λ (d : DesignChecking). Moves (with_entry old number e) (record old { wants = d.wants; designs = d.designs }) result) (sym new)
     (subst (λ g. Moves (ruled number g (record old { wants = after_entry old.wants e })) (record old { wants = then_wants f (after_entry old.wants e) }) result) faults
@@ -99,27 +82,11 @@ pub design_moves : (old now : Running) (k : DesignChecking) (p q : Stated) (numb
 design_moves old now k p q number line blocks fed f result same keeps states reads answers fed_is is moves =
     let faults : f ≡ design_fault old.problem old.wants blocks = is ∙ ap fault_in answers ∙ fault_led (design_fault p old.wants blocks) ∙ ap (λ s. design_fault s old.wants blocks) keeps in
     let new : k ≡ record { problem = p; wants = then_wants f (after_leaf old.wants); designs = counted f old.designs } =
-        fed_is ∙ ap (λ (s : Stated). record { problem = p; wants = then_wants (design_fault s old.wants blocks) (after_leaf old.wants); designs = counted (design_fault s old.wants blocks) old.designs }) keeps
-        ∙ ap (λ g. record { problem = p; wants = then_wants g (after_leaf old.wants); designs = counted g old.designs }) (sym faults) in
+    fed_is ∙ ap (λ (s : Stated). record { problem = p; wants = then_wants (design_fault s old.wants blocks) (after_leaf old.wants); designs = counted (design_fault s old.wants blocks) old.designs }) keeps
+    ∙ ap (λ g. record { problem = p; wants = then_wants g (after_leaf old.wants); designs = counted g old.designs }) (sym faults) in
     let read : read_or number fault.BadDesign (design_of old.problem line) ≡ Ok blocks = ap (read_or number fault.BadDesign) (ap (λ s. design_of s line) (sym states) ∙ reads) in
     subst (λ (r : Running). Moves (runs_with r number line piece.Design) (record old { wants = k.wants; designs = k.designs }) result) same
     (moves_then (read_or number fault.BadDesign (design_of old.problem line)) (with_design old number) blocks (record old { wants = k.wants; designs = k.designs }) result read
     (subst (λ (d : DesignChecking). Moves (with_design old number blocks) (record old { wants = d.wants; designs = d.designs }) result) (sym new)
     (subst (λ g. Moves (ruled number g (record old { wants = after_leaf old.wants; designs = counted None old.designs })) (record old { wants = then_wants f (after_leaf old.wants); designs = counted f old.designs }) result) faults
     (design_cases number f old (after_leaf old.wants) result moves))))
-
--- a line that is looked at, once the first source is whole, and one that isn't
-pub line_moves : (a : Awaits) (old new : Running) (number : ℕ) (line : List ℕ) (o : Option Judged) (p : Piece) (result : Result (Unit {0}) Stop)
-    → option_map (λ j. j.piece) o ≡ Some p → Moves (runs_with old number line p) new result
-    → Moves (after_judged record { awaits = a; held = Runs old } number line o) record { awaits = next_of a o; held = Runs new } result
-line_moves a old new number line None p result is moves = absurd (cc)
-line_moves a old new number line (Some j) p result is moves =
-    let same : p ≡ j.piece = cc in
-    let held : Moves (runs_with old number line j.piece >>= λ after. Ok (Runs after)) (Runs new) result =
-        moves_into (runs_with old number line j.piece) Runs new result (subst (λ q. Moves (runs_with old number line q) new result) same moves) in
-    moves_into (runs_with old number line j.piece >>= λ after. Ok (Runs after)) (λ (h : Held). record { awaits = j.next; held = h }) (Runs new) result held
-
-pub line_passed : (a : Awaits) (r : Running) (number : ℕ) (line : List ℕ) (o : Option Judged) → option_map (λ j. j.piece) o ≡ None
-    → after_judged record { awaits = a; held = Runs r } number line o ≡ Ok record { awaits = next_of a o; held = Runs r }
-line_passed a r number line None is = refl
-line_passed a r number line (Some j) is = absurd (cc)

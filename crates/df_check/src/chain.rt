@@ -1,6 +1,6 @@
 // A chain of dossiers, from the line on after which its first source is whole.
 ghost use Rattle.std.specs.Prelude.{◌≡◌, IfOk};
-ghost use Rattle.df_check.specs.Judging.{Standing, Runs, running_on, after_line, at_end};
+ghost use Rattle.df_check.specs.Judging.{Runs, running_on, after_line, at_end};
 ghost use Rattle.df_check.specs.Stops.{Gives, Moves};
 
 use crate::OutOfMemory;

@@ -6,7 +6,7 @@ ghost use Rattle.df_dossier.specs.declared.judge.DossierFault.TheVariants as dos
 ghost use Rattle.df_dossier.specs.declared.judge.Piece.TheVariants as piece;
 ghost use Rattle.df_check.specs.Chains.{empty_path as empty_path_is};
 ghost use Rattle.df_check.specs.Entries.{unless as unless_of};
-ghost use Rattle.df_check.specs.Judging.{Running as Held, running_on, runs_with, with_entry, read_or, ruled as ruled_of, is_place as is_place_of, same_path as same_path_of, finished_at};
+ghost use Rattle.df_check.specs.Judging.{Running as State, running_on, runs_with, with_entry, read_or, ruled as ruled_of, is_place as is_place_of, same_path as same_path_of, finished_at};
 ghost use Rattle.df_check.specs.Stops.{Gives, Moves, Stops, fault_in};
 
 use crate::design_checker::Checker;
@@ -41,7 +41,7 @@ fn fault_of(fed: Fed) -> Option<LogFault>
 
 // A fault refuses the line of this number.
 fn ruled(number: u64, fault: Option<LogFault>) -> Result<(), Stop>
-    ensures { (r : Held) → Moves (ruled_of number fault r) r result }
+    ensures { (r : State) → Moves (ruled_of number fault r) r result }
 {
     match fault {
         None => Ok(()),
@@ -91,12 +91,7 @@ fn path_of(alloc: Global, number: u64, line: &[u8], fault: DossierFault) -> Resu
 }
 
 // The blocks of the line of this number, a design line.
-fn blocks_of(
-    alloc: Global,
-    problem: &Problem,
-    number: u64,
-    line: &[u8],
-) -> Result<Vec<Block>, Stop>
+fn blocks_of(alloc: Global, problem: &Problem, number: u64, line: &[u8]) -> Result<Vec<Block>, Stop>
     ensures ok { IfOk result (λ blocks. design_of problem.now line.now ≡ Some blocks.items) }
     ensures stop { IfErr result (λ stop. Stops (read_or number dossier_fault.BadDesign (design_of problem.now line.now)) stop) }
 {
@@ -183,9 +178,13 @@ impl<'m> Running<'m> {
             Piece::Design => self.design(alloc, number, line),
             Piece::End { finished: true, .. } => self.finish(number),
             Piece::End {
-                finished: false, ..
+                finished: false,
+                ..
             } => self.stop(alloc, number, line),
-            Piece::Bad(fault) => Err(Stop::BadLine { line: number, fault }),
+            Piece::Bad(fault) => Err(Stop::BadLine {
+                line: number,
+                fault,
+            }),
         }
     }
 

@@ -1,11 +1,11 @@
 // Why judging ends before its input does.
+ghost use Rattle.std.specs.Prelude.{◌≡◌};
+ghost use Rattle.df_check.specs.declared.stop.Stop.TheVariants.{OutOfMemory};
+
 use crate::LogFault;
 use df_dossier::DossierFault;
 use df_matrix::MatrixError;
 use std::alloc::AllocFailed;
-
-ghost use Rattle.std.specs.Prelude.{◌≡◌};
-ghost use Rattle.df_check.specs.declared.stop.Stop.TheVariants.{OutOfMemory};
 
 /// Why judging ends before its input does, or at its end without a verdict.
 #[derive(Clone, Copy, Debug, Eq, PartialEq)]

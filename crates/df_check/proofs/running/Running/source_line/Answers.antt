@@ -1,4 +1,4 @@
-use Rattle.std.proofs.Common.{refl, ap, ◌∙◌}
+use Rattle.std.proofs.Common.{ap, ◌∙◌}
 use Rattle.df_check.specs.declared.LogFault.TheVariants.{SourceDiffers}
 use Rattle.df_check.specs.Entries.{unless}
 use Rattle.df_check.specs.Judging.{Running, is_awaited, after_awaited}
