@@ -18,3 +18,4 @@ pub mod VerdictDossiers
 pub mod GivenItems
 pub mod ChainVerdicts
 pub mod LimitsTold
+pub mod JudgedMoves

@@ -9,5 +9,6 @@ pub mod Laws
 pub mod DesignLaws
 pub mod Chains
 pub mod Judging
+pub mod Stops
 pub mod Checks
 pub mod ChainLaws

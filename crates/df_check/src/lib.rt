@@ -12,6 +12,7 @@
 //! design line may pass all columns. All memory is taken in `SystemChecker::new` and `Checker::new`.
 #![tactic(auto)]
 
+mod chain;
 pub mod chain_laws;
 pub mod checker;
 mod checks;
@@ -21,6 +22,9 @@ pub mod design_laws;
 mod fault_texts;
 mod judge;
 pub mod laws;
+mod running;
+mod same_source;
+mod stop;
 #[cfg(test)]
 mod tests;
 
