@@ -25,7 +25,8 @@ named word =
     (if bytes_eq word (codes "matrix") then Some name.Matrix else
     (if bytes_eq word (codes "solve") then Some name.Solve else
     (if bytes_eq word (codes "resume") then Some name.Resume else
-    (if bytes_eq word (codes "workload") then Some name.Workload else None)))))))
+    (if bytes_eq word (codes "check") then Some name.Check else
+    (if bytes_eq word (codes "workload") then Some name.Workload else None))))))))
 
 -- the option that a word names
 abbrev pub flagged : List ℕ → Option Flag
@@ -118,4 +119,5 @@ command_named name.Orbits n stated = command.Orbits
 command_named name.Matrix n stated = command.Matrix
 command_named name.Solve n stated = command.Solve (options_in stated)
 command_named name.Resume n stated = command.Resume (options_in stated)
+command_named name.Check n stated = command.Check
 command_named name.Workload n stated = command.Workload n

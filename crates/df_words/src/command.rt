@@ -28,6 +28,8 @@ pub enum Command {
     Solve(Options),
     /// The designs that a search has still to find, which ended spent: it goes on where its dossier says.
     Resume(Options),
+    /// Whether a chain of dossiers is a log that proves its designs to be all.
+    Check,
     /// How long the search for one design takes: the problem of this number, from `LEAST_WORKLOAD` to `MOST_WORKLOAD`.
     Workload(u8),
 }

@@ -14,6 +14,7 @@ pub enum Name {
     Matrix,
     Solve,
     Resume,
+    Check,
     Workload,
 }
 
@@ -77,6 +78,7 @@ pub fn named(word: &str) -> Option<Name>
         "matrix" => Some(Name::Matrix),
         "solve" => Some(Name::Solve),
         "resume" => Some(Name::Resume),
+        "check" => Some(Name::Check),
         "workload" => Some(Name::Workload),
         _ => None,
     }
@@ -109,6 +111,7 @@ pub fn takes(name: Name, flag: Flag) -> bool
         (Name::Solve, _) => true,
         (Name::Resume, Flag::Json) => false,
         (Name::Resume, _) => true,
+        (Name::Check, _) => false,
         (Name::Workload, _) => false,
     }
 }
@@ -138,6 +141,7 @@ pub fn number(name: Name) -> Option<Bounds>
         Name::Matrix => None,
         Name::Solve => None,
         Name::Resume => None,
+        Name::Check => None,
         Name::Workload => Some(Bounds {
             least: LEAST_WORKLOAD,
             most: MOST_WORKLOAD,
@@ -214,6 +218,7 @@ pub fn command(name: Name, number: u64, stated: Stated) -> Command
         Name::Matrix => Command::Matrix,
         Name::Solve => Command::Solve(stated.options()),
         Name::Resume => Command::Resume(stated.options()),
+        Name::Check => Command::Check,
         Name::Workload => Command::Workload(number as u8),
     }
 }

@@ -20,6 +20,7 @@ fn reads_each_command(rt: HostRuntime) -> Result<(), Fail> {
         (&["verify"][..], Command::Verify),
         (&["orbits"][..], Command::Orbits),
         (&["matrix"][..], Command::Matrix),
+        (&["check"][..], Command::Check),
     ] {
         assert_eq!(rt; read(rt.alloc(), words)?, Ok(wanted));
     }
@@ -128,7 +129,16 @@ fn names_the_first_word_at_fault(rt: HostRuntime) -> Result<(), Fail> {
         (&["workload", "18446744073709551617"][..], 2),
         (&["workload", "7", "7"][..], 3),
         (&["workload", "7", "--log"][..], 3),
-        (&["check", "verify"][..], 1),
+        (&["Check"][..], 1),
+        (&["checks"][..], 1),
+        (&["--log", "check"][..], 1),
+        (&["check", "check"][..], 2),
+        (&["check", "verify"][..], 2),
+        (&["check", "--log"][..], 2),
+        (&["check", "--budget", "1"][..], 2),
+        (&["check", "--json"][..], 2),
+        (&["check", "7"][..], 2),
+        (&["check", ""][..], 2),
         (&["verify", "verify"][..], 2),
         (&["show", "table"][..], 2),
         (&["verify", "--log", "x"][..], 2),
