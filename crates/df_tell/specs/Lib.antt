@@ -1,5 +1,6 @@
 pub mod Canonical
 pub mod Cells
+pub mod Check
 pub mod Counts
 pub mod Dossier
 pub mod Gathered

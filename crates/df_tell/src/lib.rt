@@ -8,6 +8,9 @@
 #![tactic(auto)]
 
 mod canonical;
+mod check;
+#[cfg(test)]
+mod check_tests;
 mod counts;
 mod dossier;
 mod gathered;
@@ -29,6 +32,7 @@ mod verdict;
 mod workload;
 
 pub use canonical::write_canonical;
+pub use check::{write_complete, write_log_refusal};
 pub use dossier::write_dossier_refusal;
 pub use laws::{own_logs_are_chains, spent_texts_are_read_back};
 pub use limits::{Limit, write_limit};
