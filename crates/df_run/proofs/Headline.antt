@@ -36,13 +36,18 @@ use Rattle.df_dossier.specs.Dossiers.{Refusal}
 use Rattle.df_dossier.specs.Spent.{spent}
 use Rattle.df_dossier.specs.SpentRules.{SpentKeepTheirRules}
 use Rattle.df_dossier.specs.declared.spent.Spent.{Spent}
+use Rattle.df_io.specs.Lines.{lines_of}
+use Rattle.df_check.specs.ChainLaws.{ChainsAreDecided, ChainsKeepTheirRules, ChainsListAllDesigns, BasesAreRepresentatives}
+use Rattle.df_check.specs.Chains.{IsChain}
+use Rattle.df_check.specs.Judging.{Reason, BadLine, Above, BadLog, Refused as Broken, verdict as chain_verdict}
+use Rattle.df_tell.specs.Check.{complete_text}
 use Rattle.df_tell.specs.declared.limits.Limit.{Limit}
 use Rattle.df_tell.specs.declared.path.PathRefusal.{PathRefusal}
 use Rattle.df_run.specs.declared.tasks.Task.TheVariants.{Source, Stream, Work}
-use Rattle.df_run.specs.Answers.{Answer, answer_to, answer_spent, answer_work, verdict_answer, within, at_node, run_answer, search_answer}
+use Rattle.df_run.specs.Answers.{Answer, answer_to, answer_spent, answer_work, answer_broken, answer_checked, verdict_answer, within, at_node, run_answer, search_answer}
 use Rattle.df_run.specs.Limits.{matrix_limit, path_refusal}
 use Rattle.df_run.specs.Endings.{EndsAs, Answers, IsUnreadByWork}
-use Rattle.df_run.specs.Headline.{Headline, IsAccepted, IsRefused, IsFinished, IsStopped, IsSolved, IsSpent, IsResumed, IsResumedSpent, IsWorked, IsWorkedSpent}
+use Rattle.df_run.specs.Headline.{Headline, IsAccepted, IsRefused, IsFinished, IsStopped, IsSolved, IsSpent, IsResumed, IsResumedSpent, IsWorked, IsWorkedSpent, IsChecked}
 use Rattle.df_run.specs.Streams.{Incoming, Outgoing}
 use Rattle.df_run.specs.Tasks.{task_of}
 use Rattle.df_run.specs.Readings.{LeavesInput}
@@ -50,7 +55,7 @@ use Rattle.df_run.specs.Workloads.{workload_source}
 use Rattle.df_run.specs.declared.statuses.Status.{Status}
 use Rattle.df_run.specs.declared.statuses.Status.TheVariants as ends
 use Rattle.df_run.specs.declared.tasks.SourceTask.TheVariants.{Verify, Solve}
-use Rattle.df_run.specs.declared.tasks.StreamTask.TheVariants.{Resume}
+use Rattle.df_run.specs.declared.tasks.StreamTask.TheVariants.{Resume, Check}
 use Rattle.df_run.proofs.PathRefusals.{no_refusal}
 use Rattle.df_run.proofs.SearchRuns.{at_start, designs_all, finishes, stops}
 use Rattle.df_run.proofs.Workloads.{works, works_spent, source_short}
@@ -137,7 +142,32 @@ module _ (options : Options) (o : Outgoing) where
     stays_spent bytes is None (Some refusal) fits status text = absurd (cc)
     stays_spent bytes is (Some limit) refusal fits status text = absurd (cc)
 
-module _ (keep : SourcesKeepTheirRules) (keep_spent : SpentKeepTheirRules) (lines : CommandLineLaw) (numbers : WorkloadLaw) (balance : BalanceLaw) (verdict : VerdictLaw) (systems : OrbitSystemsAreSystems) (runs : RunsAreWhole) (reasons : PathsHaveReasons) (theorem : DesignsAreSolutions) (i : Incoming) (o : Outgoing) where
+-- where a line breaks a rule, `check` isn't done
+not_done : (line : ℕ) (reason : Reason) → ends.Done ≡ (answer_broken line reason).status → ⊥
+not_done line (BadLine fault) status = cc
+not_done line (Above e) status = cc
+not_done line (BadLog fault) status = cc
+
+module _ (decided : ChainsAreDecided) (bytes : List ℕ) (few : length bytes ≤ MOST_BYTES) where
+  -- `check` is done with these bytes: they are a chain
+  checks : ChainsKeepTheirRules → ChainsListAllDesigns → BasesAreRepresentatives → (o : Outgoing) (r : Result ℕ Broken) → chain_verdict bytes ≡ r → ends.Done ≡ (answer_checked r).status → Appends o.written o.written_after (answer_checked r).text → IsChecked o bytes
+  checks keep all bases o (Ok designs) is status text =
+      let c = (decided bytes few).accepted designs is in
+      let rules = keep bytes few c.0 in record {
+        chain = c.0;
+        rules = rules;
+        designs_are = all (lines_of bytes) c.0 rules;
+        bases_are = bases (lines_of bytes) c.0 rules;
+        printed = subst (λ n. Appends o.written o.written_after (complete_text n)) c.1 text;
+      }
+  checks keep all bases o (Err broken) is status text = absurd (not_done broken.line broken.reason status)
+
+  -- `check` refuses them: they are none
+  breaks : (r : Result ℕ Broken) → chain_verdict bytes ≡ r → ends.Refused ≡ (answer_checked r).status → IsChain (lines_of bytes) → ⊥
+  breaks (Ok designs) is status chain = cc
+  breaks (Err broken) is status chain = let complete = sym is ∙ (decided bytes few).only chain in cc
+
+module _ (keep : SourcesKeepTheirRules) (keep_spent : SpentKeepTheirRules) (lines : CommandLineLaw) (numbers : WorkloadLaw) (balance : BalanceLaw) (verdict : VerdictLaw) (systems : OrbitSystemsAreSystems) (runs : RunsAreWhole) (reasons : PathsHaveReasons) (theorem : DesignsAreSolutions) (decided : ChainsAreDecided) (keep_chains : ChainsKeepTheirRules) (all : ChainsListAllDesigns) (bases : BasesAreRepresentatives) (i : Incoming) (o : Outgoing) where
   -- what `verify` answers to these bytes
   done_with : (bytes : List ℕ) → length bytes ≤ MOST_BYTES → (r : Result Stated SourceError) → source bytes ≡ r → ends.Done ≡ (answer_to Verify r).status → Appends o.written o.written_after (answer_to Verify r).text → IsAccepted o bytes
   done_with bytes few (Ok s) is status text = accepts balance verdict s (keep bytes s few is) bytes o is (find is_wrong (table s)) refl status text
@@ -194,6 +224,10 @@ module _ (keep : SourcesKeepTheirRules) (keep_spent : SpentKeepTheirRules) (line
   verify_line : (words : List (List ℕ)) → words ≡ codes "verify" ∷ [] → IsCommandLine words commands.Verify
   verify_line words is = (lines words commands.Verify).0 (ap command_of is)
 
+  -- and those of `check` for it
+  check_line : (words : List (List ℕ)) → words ≡ codes "check" ∷ [] → IsCommandLine words commands.Check
+  check_line words is = (lines words commands.Check).0 (ap command_of is)
+
   pub headline : (words : List (List ℕ)) (result : Status) → EndsAs words i o result → Headline words i o result
   headline words result ended = record {
     verified = λ is done.
@@ -220,6 +254,12 @@ module _ (keep : SourcesKeepTheirRules) (keep_spent : SpentKeepTheirRules) (line
     worked_spent = λ n line stops.
         let answers = subst (λ r. Answers (Work n) i o r) stops (asks words result (commands.Workload n) ended line (λ usage. absurd (cc)) (λ fault. absurd (cc))) in
         worked_spent_with n (numbers words n line).1 (source (workload_source n)) refl answers.1.1.0 answers.1.1.1;
+    checked = λ is done.
+        let answers = subst (λ r. Answers (Stream Check) i o r) done (asks words result commands.Check ended (check_line words is) (λ usage. absurd (cc)) (λ fault. absurd (cc))) in
+        IfSome_then i.left answers.1 (λ bytes read. checks decided bytes (omega (arith, read.0)) keep_chains all bases o (chain_verdict bytes) refl read.1.0 read.1.1);
+    unchecked = λ is refused.
+        let answers = subst (λ r. Answers (Stream Check) i o r) refused (asks words result commands.Check ended (check_line words is) (λ usage. absurd (cc)) (λ fault. absurd (cc))) in
+        IfSome_then i.left answers.1 (λ bytes read. breaks decided bytes (omega (arith, read.0)) (chain_verdict bytes) refl read.1.0);
   }
 
 -- and a workload reads nothing

@@ -7,3 +7,4 @@ pub mod Headline
 pub mod EntryLimits
 pub mod BlockLimits
 pub mod Chains
+pub mod OwnLogs

@@ -12,18 +12,24 @@ use Rattle.df_kramer_mesner.specs.OrbitSystems.{orbit_system}
 use Rattle.df_dossier.specs.Spent.{spent}
 use Rattle.df_dossier.specs.SpentStreams.{ReadsAll}
 use Rattle.df_dossier.specs.declared.spent.Spent.{Spent}
+use Rattle.df_kramer_mesner.specs.Laws.{ColumnsAreSparse}
+use Rattle.df_matrix.specs.declared.matrix.MatrixError.{MatrixError}
+use Rattle.df_check.specs.ChainLaws.{LimitsAreOfProblems}
+use Rattle.df_check.specs.Judging as judged
+use Rattle.df_check.specs.Judging.{Above, verdict}
 use Rattle.df_tell.specs.declared.limits.Limit.{Limit}
 use Rattle.df_tell.specs.declared.path.PathRefusal.{PathRefusal}
 use Rattle.df_words.specs.declared.command.Options.{Options}
 use Rattle.df_run.specs.Answers.{Answer, answer, answer_spent, answer_resumed, within, at_node, stop_status}
 use Rattle.df_run.specs.Endings.{RepliesOr, Answers}
-use Rattle.df_run.specs.Limits.{matrix_limit, path_refusal}
+use Rattle.df_run.specs.Limits.{matrix_limit, path_refusal, IsCountable}
 use Rattle.df_run.specs.Readings.{IsAllOf}
 use Rattle.df_run.specs.Streams.{Incoming, Outgoing}
 use Rattle.df_run.specs.declared.statuses.Status.{Status}
 use Rattle.df_run.specs.declared.statuses.Status.TheVariants as ends
 use Rattle.df_run.specs.declared.tasks.Task.TheVariants.{Stream}
 use Rattle.df_run.specs.declared.tasks.StreamTask.TheVariants.{Resume}
+use Rattle.df_run.proofs.EntryLimits.{countable}
 
 -- where all was read, the bytes that were left are those that were read
 abbrev AreRead : Option (List ℕ) → (List ℕ → Type 0) → Type 0
@@ -82,3 +88,9 @@ module _ (options : Options) (d : Spent) (i : Incoming) (o : Outgoing) (read : I
   resumed_answers result (inl (inl reply)) = ended result reply.0 reply.1 (resumed_ends options d)
   resumed_answers result (inl (inr fault)) = subst (Answers (Stream (Resume options)) i o) (sym fault.0) (stopped fault.2, fault.1)
   resumed_answers result (inr none) = subst (Answers (Stream (Resume options)) i o) (sym none.0) none.1
+
+-- where a chain of dossiers is of a problem above a limit, what is told of it is counted in 64 bits
+pub above_countable : ColumnsAreSparse → LimitsAreOfProblems → (i : Incoming) (e : MatrixError) → ReadsAll i.left i.left_after (λ bytes. (line : ℕ) × (verdict bytes ≡ judged.stopped line (Above e))) → IsCountable e
+above_countable sparse law i e read =
+    let passed = law read.0 read.3 read.4.0 e read.4.1 in
+    countable sparse passed.problem passed.stated e passed.limit

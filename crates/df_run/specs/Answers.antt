@@ -14,7 +14,9 @@ use Rattle.df_kramer_mesner.specs.OrbitSystems.{orbit_system}
 use Rattle.df_dossier.specs.Dossiers.{Refusal}
 use Rattle.df_dossier.specs.Spent.{spent}
 use Rattle.df_dossier.specs.declared.spent.Spent.{Spent}
+use Rattle.df_check.specs.Judging.{Reason, BadLine, Above, BadLog, Refused as Broken, verdict}
 use Rattle.df_tell.specs.Canonical.{canonical_text}
+use Rattle.df_tell.specs.Check.{complete_text, log_refusal_text}
 use Rattle.df_tell.specs.Table.{table_text}
 use Rattle.df_tell.specs.Verdict.{verdict_text}
 use Rattle.df_tell.specs.Orbits.{orbits_text}
@@ -30,7 +32,7 @@ use Rattle.df_tell.specs.declared.path.PathRefusal.{PathRefusal}
 use Rattle.df_tell.specs.declared.run.Shown.{Shown}
 use Rattle.df_words.specs.declared.command.Options.{Options}
 use Rattle.df_words.specs.declared.table.TheConstants.{DEFAULT_BUDGET}
-use Rattle.df_run.specs.Limits.{subsets_limit, matrix_limit, path_refusal}
+use Rattle.df_run.specs.Limits.{limit_of, subsets_limit, matrix_limit, path_refusal}
 use Rattle.df_run.specs.Workloads.{workload_source}
 use Rattle.df_run.specs.declared.statuses.Status.{Status}
 use Rattle.df_run.specs.declared.statuses.Status.TheVariants as ends
@@ -39,7 +41,7 @@ use Rattle.df_run.specs.declared.tasks.Task.TheVariants.{Source, Stream, Work}
 use Rattle.df_run.specs.declared.tasks.SourceTask.{SourceTask}
 use Rattle.df_run.specs.declared.tasks.SourceTask.TheVariants.{Show, Table, Verify, Orbits, Matrix, Solve}
 use Rattle.df_run.specs.declared.tasks.StreamTask.{StreamTask}
-use Rattle.df_run.specs.declared.tasks.StreamTask.TheVariants.{Resume}
+use Rattle.df_run.specs.declared.tasks.StreamTask.TheVariants.{Resume, Check}
 
 pub record Answer : Type 0 where
   pub status : Status
@@ -109,8 +111,26 @@ abbrev pub answer_spent : Options → Result Spent Refusal → Answer
 answer_spent options (Ok d) = answer_resumed options d
 answer_spent options (Err e) = bad_input (dossier_text e)
 
+-- the line of a limit, where there is one
+abbrev pub limit_line : Option Limit → List ℕ
+limit_line None = []
+limit_line (Some limit) = limit_text limit
+
+-- what is answered where a line, the first that does, breaks a rule of dossiers, ends the source of a problem above a limit, or
+-- breaks a rule of logs or of chains
+abbrev pub answer_broken : ℕ → Reason → Answer
+answer_broken line (BadLine fault) = bad_input (dossier_text record { line = line; fault = fault })
+answer_broken line (Above e) = bad_input (limit_line (limit_of e))
+answer_broken line (BadLog fault) = record { status = ends.Refused; text = log_refusal_text line fault }
+
+-- to lines that are a chain of dossiers with this number of designs, or that aren't
+abbrev pub answer_checked : Result ℕ Broken → Answer
+answer_checked (Ok designs) = done (complete_text designs)
+answer_checked (Err broken) = answer_broken broken.line broken.reason
+
 abbrev pub answer_stream : StreamTask → List ℕ → Answer
 answer_stream (Resume options) bytes = answer_spent options (spent bytes)
+answer_stream Check bytes = answer_checked (verdict bytes)
 
 -- the run of a workload's search
 abbrev pub work_answer : ℕ → Stated → Run → Answer

@@ -1,6 +1,6 @@
 -- Chains of searches: a first one, and others that each go on with the text which the one before wrote, as long as a budget was spent.
 use Rattle.std.specs.Prelude.{◌≡◌, ℕ, ◌+◌, ◌≤◌, Bool, true, false, List, [], ◌∷◌, ◌++◌, length, map, if◌then◌else◌, Option, Some, None, Ok}
-use Rattle.std.specs.List.{AllByRecursion}
+use Rattle.std.specs.List.{flat_map, AllByRecursion}
 use Rattle.df_walk.specs.declared.Rules.{Rules}
 use Rattle.df_walk.specs.declared.Rules.TheVariants.{Divisor}
 use Rattle.df_walk.specs.Assignments.{total}
@@ -16,16 +16,17 @@ use Rattle.df_correspondence.specs.Designs.{asked}
 use Rattle.df_design.specs.RemainingDesigns.{designs_from}
 use Rattle.df_dossier.specs.Spent.{spent}
 use Rattle.df_dossier.specs.declared.spent.Spent.{Spent}
+use Rattle.df_tell.specs.Check.{complete_text}
 use Rattle.df_words.specs.declared.command.Options.{Options}
 use Rattle.df_words.specs.declared.table.TheConstants.{MOST_BUDGET}
-use Rattle.df_run.specs.Answers.{Answer, answer, search_answer}
+use Rattle.df_run.specs.Answers.{Answer, done, answer, search_answer}
 use Rattle.df_run.specs.Headline.{designs_in, nodes_from}
 use Rattle.df_run.specs.Limits.{matrix_limit}
 use Rattle.df_run.specs.declared.statuses.Status.{Status}
 use Rattle.df_run.specs.declared.statuses.Status.TheVariants as ends
 use Rattle.df_run.specs.declared.tasks.Task.TheVariants.{Source, Stream}
 use Rattle.df_run.specs.declared.tasks.SourceTask.TheVariants.{Solve}
-use Rattle.df_run.specs.declared.tasks.StreamTask.TheVariants.{Resume}
+use Rattle.df_run.specs.declared.tasks.StreamTask.TheVariants.{Resume, Check}
 
 abbrev pub is_spent : Status → Bool
 is_spent ends.Spent = true
@@ -85,3 +86,27 @@ pub record ChainsAreAnswered : Type 0 where
       → IsChain Divisor s [] (asked s) (first ∷ more) (and_resumed (answer (Source (Solve first)) bytes) more)
   pub resumed : (bytes : List ℕ) (d : Spent) (first : Options) (more : List Options) → length bytes ≤ MOST_BYTES → spent bytes ≡ Ok d → matrix_limit d.problem ≡ None → IsNode d.rules (orbit_system d.problem) (path_of d.path) → AreBudgets (first ∷ more)
       → IsChain d.rules d.problem (path_of d.path) (designs_from d.problem (path_of d.path)) (first ∷ more) (and_resumed (answer (Stream (Resume first)) bytes) more)
+
+-- the texts of answers, joined
+abbrev pub joined_texts : List Answer → List ℕ
+joined_texts answers = flat_map (λ (a : Answer). a.text) answers
+
+-- each search writes its log
+abbrev pub AreLogged : List Options → Type 0
+AreLogged options = AllByRecursion (λ o. o.log ≡ true) options
+
+-- `check` answers to a text that it is a chain of dossiers, with the number of all designs that a problem asks for
+abbrev pub IsComplete : Stated → List ℕ → Type 0
+IsComplete s text = answer (Stream Check) text ≡ done (complete_text (length (asked s)))
+
+-- What a chain of searches wrote, each with its log, is complete where it is joined: the chain begins with a source, or with a dossier
+-- that goes on from the empty path; the last search is finished; and all texts together are no longer than an input may be.
+pub record OwnLogsAreComplete : Type 0 where
+  pub solved : (bytes : List ℕ) (s : Stated) (first : Options) (more : List Options) → length bytes ≤ MOST_BYTES → source bytes ≡ Ok s → matrix_limit s ≡ None → AreBudgets (first ∷ more) → AreLogged (first ∷ more)
+      → last_stop Divisor s [] (first ∷ more) ≡ None
+      → length (joined_texts (and_resumed (answer (Source (Solve first)) bytes) more)) ≤ MOST_BYTES
+      → IsComplete s (joined_texts (and_resumed (answer (Source (Solve first)) bytes) more))
+  pub resumed : (bytes : List ℕ) (d : Spent) (first : Options) (more : List Options) → length bytes ≤ MOST_BYTES → spent bytes ≡ Ok d → matrix_limit d.problem ≡ None → path_of d.path ≡ [] → IsNode d.rules (orbit_system d.problem) [] → AreBudgets (first ∷ more) → AreLogged (first ∷ more)
+      → last_stop d.rules d.problem [] (first ∷ more) ≡ None
+      → length (joined_texts (and_resumed (answer (Stream (Resume first)) bytes) more)) ≤ MOST_BYTES
+      → IsComplete d.problem (joined_texts (and_resumed (answer (Stream (Resume first)) bytes) more))

@@ -15,7 +15,7 @@ use Rattle.df_run.specs.declared.statuses.Status.TheVariants as ends
 use Rattle.df_run.specs.declared.tasks.Task.{Task}
 use Rattle.df_run.specs.declared.tasks.Task.TheVariants.{Source, Stream, Work}
 use Rattle.df_run.specs.declared.tasks.SourceTask.TheVariants.{Show, Table, Verify, Orbits, Matrix, Solve}
-use Rattle.df_run.specs.declared.tasks.StreamTask.TheVariants.{Resume}
+use Rattle.df_run.specs.declared.tasks.StreamTask.TheVariants.{Resume, Check}
 
 -- the text was written and the status answered, or the sink failed before the text's end
 abbrev pub Replies : Answer → Outgoing → Status → Type 0
@@ -40,6 +40,7 @@ HasBudget (Source Orbits) = ⊥
 HasBudget (Source Matrix) = ⊥
 HasBudget (Source (Solve options)) = Unit {0}
 HasBudget (Stream (Resume options)) = Unit {0}
+HasBudget (Stream Check) = ⊥
 HasBudget (Work n) = Unit {0}
 
 -- when a task ends with each status, and what was then read and written

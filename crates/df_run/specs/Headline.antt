@@ -1,24 +1,29 @@
 -- What an answer says of designs: a field a sentence, over the bytes read, the bytes written and the status.
 use Rattle.std.specs.Prelude.{◌≡◌, ℕ, ◌+◌, ◌≤◌, ◌<◌, Bool, false, List, [], ◌∷◌, ◌++◌, codes, length, map, Some, None, Ok, IfSome}
 use Rattle.std.specs.List.{flat_map}
+use Rattle.std.specs.List.Sorted.{IsPermutation}
 use Rattle.std.specs.Io.KnownBytes.{Appends}
 use Rattle.df_lists.specs.Membership.{In}
+use Rattle.df_io.specs.Lines.{lines_of}
 use Rattle.df_walk.specs.declared.Rules.{Rules}
 use Rattle.df_walk.specs.declared.Rules.TheVariants.{Divisor}
 use Rattle.df_walk.specs.Walks.{Step, solutions_in, nodes_in}
 use Rattle.df_walk.specs.Paths.{IsNode, load, path_of}
 use Rattle.df_runs.specs.Runs.{Run}
-use Rattle.df_lang.specs.Problems.{Stated, point_count}
+use Rattle.df_lang.specs.Problems.{Stated, IsStated, point_count}
 use Rattle.df_lang.specs.Balance.{IsBalanced}
 use Rattle.df_lang.specs.Sources.{source}
 use Rattle.df_family.specs.Developments.{develop}
 use Rattle.df_family.specs.Tables.{rows, found, stated, IsAsStated}
 use Rattle.df_family.specs.declared.table.Row.{Row}
 use Rattle.df_kramer_mesner.specs.OrbitSystems.{orbit_system, columns_of}
-use Rattle.df_correspondence.specs.Designs.{asked, design}
+use Rattle.df_correspondence.specs.Designs.{asked, base, design}
 use Rattle.df_design.specs.RemainingDesigns.{designs_from}
 use Rattle.df_dossier.specs.Spent.{spent}
 use Rattle.df_dossier.specs.declared.spent.Spent.{Spent}
+use Rattle.df_check.specs.Lines.{leaves_of}
+use Rattle.df_check.specs.Chains.{IsChain, designs_of, log_of}
+use Rattle.df_tell.specs.Check.{complete_text}
 use Rattle.df_tell.specs.Verdict.{accepted_text}
 use Rattle.df_tell.specs.Run.{head_text, source_text, from_text, design_lines, end_text, run_text}
 use Rattle.df_tell.specs.Workload.{workload_line}
@@ -143,6 +148,15 @@ pub record IsWorkedSpent (n : ℕ) (o : Outgoing) : Type 0 where
   pub before : DEFAULT_BUDGET + nodes_from Divisor problem place ≡ nodes_from Divisor problem []
   pub unpaid : DEFAULT_BUDGET < nodes_from Divisor problem []
 
+-- a chain of dossiers, whoever wrote it, whose problem keeps the rules of problems: the designs of its design lines are those that
+-- the problem asks for, each once and nothing else; each line has the base blocks of its design; and how many they are was printed
+pub record IsChecked (o : Outgoing) (bytes : List ℕ) : Type 0 where
+  pub chain : IsChain (lines_of bytes)
+  pub rules : IsStated chain.first.problem
+  pub designs_are : IsPermutation (designs_of chain) (asked chain.first.problem)
+  pub bases_are : map (base chain.first.problem) (designs_of chain) ≡ leaves_of (log_of (chain.first ∷ chain.later))
+  pub printed : Appends o.written o.written_after (complete_text (length (designs_of chain)))
+
 pub record Headline (words : List (List ℕ)) (i : Incoming) (o : Outgoing) (result : Status) : Type 0 where
   pub verified : words ≡ codes "verify" ∷ [] → result ≡ ends.Done → IfSome i.left (IsAccepted o)
   pub refused : words ≡ codes "verify" ∷ [] → result ≡ ends.Refused → IfSome i.left IsRefused
@@ -152,3 +166,5 @@ pub record Headline (words : List (List ℕ)) (i : Incoming) (o : Outgoing) (res
   pub resumed_spent : (options : Options) → IsCommandLine words (Resume options) → result ≡ ends.Spent → IfSome i.left (IsResumedSpent options o)
   pub worked : (n : ℕ) → IsCommandLine words (Workload n) → result ≡ ends.Done → IsWorked n o
   pub worked_spent : (n : ℕ) → IsCommandLine words (Workload n) → result ≡ ends.Spent → IsWorkedSpent n o
+  pub checked : words ≡ codes "check" ∷ [] → result ≡ ends.Done → IfSome i.left (IsChecked o)
+  pub unchecked : words ≡ codes "check" ∷ [] → result ≡ ends.Refused → IfSome i.left (λ bytes. IsChain (lines_of bytes) → ⊥)

@@ -1,5 +1,5 @@
 -- The limit that a problem is above, if any, and why a search can't go on at a path.
-use Rattle.std.specs.Prelude.{◌*◌, nat_lt, if◌then◌else◌, length, Option, Some, None}
+use Rattle.std.specs.Prelude.{◌*◌, ◌^◌, ◌<◌, nat_lt, if◌then◌else◌, length, Option, Some, None}
 use Rattle.std.specs.Option.{option_map, option_and_then}
 use Rattle.df_walk.specs.declared.Rules.{Rules}
 use Rattle.df_walk.specs.Systems.{System}
@@ -31,6 +31,19 @@ limit_of (matrix.TooManySummed v sum) = Some (SizedSubsets v)
 limit_of (matrix.TooManyColumns columns) = Some (Columns columns)
 limit_of (matrix.TooLarge rows columns) = Some (Entries (rows * columns))
 limit_of matrix.OutOfMemory = None
+
+-- the same as an error
+abbrev pub limited_to : Option Limit → LimitError
+limited_to None = OutOfMemory
+limited_to (Some limit) = Above limit
+
+-- its rows times its columns, where these are told, fit in 64 bits
+abbrev pub IsCountable : MatrixError → Type 0
+IsCountable (matrix.TooManySubsets v k) = Unit {0}
+IsCountable (matrix.TooManySummed v sum) = Unit {0}
+IsCountable (matrix.TooManyColumns columns) = Unit {0}
+IsCountable (matrix.TooLarge rows columns) = rows * columns < 2 ^ 64
+IsCountable matrix.OutOfMemory = Unit {0}
 
 -- the limit on blocks that a problem is above
 abbrev pub subsets_limit : Stated → Option Limit

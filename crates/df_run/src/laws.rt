@@ -1,13 +1,14 @@
-// Searches that go on one after another: a law, the contract of a function that does nothing.
-ghost use Rattle.df_run.specs.Chains.{ChainsAreAnswered};
+// Searches that go on one after another, and a check of what they wrote: laws, each the contract of a function that does nothing.
+ghost use Rattle.df_run.specs.Chains.{ChainsAreAnswered, OwnLogsAreComplete};
 
+use df_check::chain_laws::chains_are_decided;
 use df_correspondence::designs_are_solutions;
 use df_dossier::spent_dossiers_keep_their_rules;
 use df_kramer_mesner::orbit_systems_are_systems;
 use df_lang::sources_keep_their_rules;
 use df_runs::laws::{chains_are_runs, runs_are_whole};
 use df_search::paths_have_reasons;
-use df_tell::spent_texts_are_read_back;
+use df_tell::{own_logs_are_chains, spent_texts_are_read_back};
 use df_walk::laws::paths_are_read;
 
 /// Where a search and then each `resume` reads the text that the one before wrote, the designs that they print, joined, are those
@@ -25,4 +26,17 @@ pub fn chains_are_answered()
     paths_are_read();
     spent_texts_are_read_back();
     designs_are_solutions();
+}
+
+/// Where a search and then each `resume` reads the text that the one before wrote, each with its log, and the last one is finished,
+/// `check` answers to their texts, joined, that they are complete, with the number of all designs that the problem asks for. The first
+/// is a `solve`, or a `resume` of a dossier whose path is the empty one.
+pub fn own_logs_are_complete()
+    ensures { OwnLogsAreComplete }
+{
+    chains_are_answered();
+    own_logs_are_chains();
+    chains_are_decided();
+    sources_keep_their_rules();
+    spent_dossiers_keep_their_rules();
 }

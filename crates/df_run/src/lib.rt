@@ -1,11 +1,14 @@
 //! The top call: words and input to a status and a text.
-//! It stands on df_words for commands, on df_tell for texts, and on the crates of the language, of families, of orbits, of designs and of dossiers for what an answer is.
+//! It stands on df_words for commands, on df_tell for texts, and on the crates of the language, of families, of orbits, of designs, of dossiers and of
+//! their checker for what an answer is.
 //! The program calls `run`. Its clause `ends` says for each status what was read and what was written, its clause `headline`
 //! what that says of designs, and its clause `unread` that a workload reads nothing.
-//! A law of it, `chains_are_answered`, is about searches that go on with one another's texts.
+//! A law of it, `chains_are_answered`, is about searches that go on with one another's texts, and `own_logs_are_complete` says that `check`
+//! takes what they wrote.
 #![tactic(auto)]
 
 mod answers;
+mod check;
 mod laws;
 mod limits;
 mod matrix;
@@ -19,13 +22,17 @@ mod tasks;
 mod workload;
 
 pub use df_words::{Command, Options, UsageFault, read_words};
-pub use laws::chains_are_answered;
+pub use laws::{chains_are_answered, own_logs_are_complete};
 pub use runs::run;
 pub use statuses::Status;
 pub use tasks::SOURCE_BYTES;
 
 #[cfg(test)]
 mod chain_tests;
+#[cfg(test)]
+mod check_chain_tests;
+#[cfg(test)]
+mod check_tests;
 #[cfg(test)]
 mod design_tests;
 #[cfg(test)]

@@ -5,10 +5,15 @@ ghost use Rattle.df_run.specs.Headline.{Headline};
 ghost use Rattle.df_run.specs.Streams.{incoming, outgoing};
 
 use crate::answers::{answer_bytes, ended};
+use crate::check::answer_check;
 use crate::resume::answer_resume;
 use crate::statuses::Status;
 use crate::tasks::{SOURCE_BYTES, SourceTask, StreamTask, Task};
 use crate::workload::answer_workload;
+use df_check::chain_laws::{
+    bases_are_representatives, chains_are_decided, chains_keep_their_rules,
+};
+use df_check::design_laws::chains_list_all_designs;
 use df_correspondence::designs_are_solutions;
 use df_dossier::spent_dossiers_keep_their_rules;
 use df_family::{table_tells_balance, verdict_tells_balance};
@@ -25,7 +30,7 @@ use std::alloc::Global;
 ///
 /// `Usage` comes where the words are not a command, and nothing is read then; a workload reads nothing either. Else `ReadFault` and `TooLong` come where
 /// the input was not read to its end; `BadInput` where it is not what the command reads, the problem is above a limit of the
-/// command, or a search can't go on at its path; `Refused` only from `verify`; `Spent` only from `solve`, `resume` and `workload`; and `Done`
+/// command, or a search can't go on at its path; `Refused` only from `verify` and `check`; `Spent` only from `solve`, `resume` and `workload`; and `Done`
 /// with the command's text. `WriteFault` comes where the sink failed before the end of the text, and `OutOfMemory` may come before
 /// its first byte.
 pub fn run<I: Source, O: Sink>(
@@ -50,6 +55,10 @@ pub fn run<I: Source, O: Sink>(
     runs_are_whole();
     paths_have_reasons();
     designs_are_solutions();
+    chains_are_decided();
+    chains_keep_their_rules();
+    chains_list_all_designs();
+    bases_are_representatives();
     run_words(alloc, words, input, out)
 }
 
@@ -107,5 +116,6 @@ fn answer_stream<I: Source, O: Sink>(
 {
     match task {
         StreamTask::Resume(options) => answer_resume(alloc, options, input, out),
+        StreamTask::Check => answer_check(alloc, input, out),
     }
 }

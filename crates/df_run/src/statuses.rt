@@ -5,9 +5,10 @@ ghost use Rattle.df_run.specs.Statuses.{code_of};
 /// How a run of the program ends.
 #[derive(Clone, Copy, Debug, PartialEq, Eq)]
 pub enum Status {
-    /// The command is done: shown, accepted, or all designs listed.
+    /// The command is done: shown, accepted, complete, or all designs listed.
     Done,
-    /// `verify`: a row of the difference table differs from what is stated.
+    /// `verify`: a row of the difference table differs from what is stated. `check`: a line breaks a rule of logs or of chains, or the
+    /// log is open at its end.
     Refused,
     /// The words are not a command. Nothing was read.
     Usage,

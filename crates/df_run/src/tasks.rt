@@ -40,6 +40,8 @@ pub enum SourceTask {
 pub enum StreamTask {
     /// The designs that the search of a dossier which ended spent has still to find.
     Resume(Options),
+    /// Whether they are a chain of dossiers that proves its designs to be all.
+    Check,
 }
 
 impl From<Command> for Task {
@@ -54,6 +56,7 @@ impl From<Command> for Task {
             Command::Matrix => Task::Source(SourceTask::Matrix),
             Command::Solve(options) => Task::Source(SourceTask::Solve(options)),
             Command::Resume(options) => Task::Stream(StreamTask::Resume(options)),
+            Command::Check => Task::Stream(StreamTask::Check),
             Command::Workload(number) => Task::Work(number),
         }
     }
