@@ -5,7 +5,7 @@ use Rattle.std.proofs.lemmas.List.{map-append, drop_more}
 use Rattle.std.proofs.lemmas.Option.{same_Some}
 use Rattle.std.proofs.lemmas.List.Elements.{filter_map-append}
 use Rattle.df_walk.specs.Solutions.{yes_columns_from, chosen_columns}
-use Rattle.df_walk.specs.Walks.{Step, solution_of, solutions_in, nodes_in}
+use Rattle.df_walk.specs.Walks.{Step, solution_of, solutions_in}
 use Rattle.df_walk.specs.Paths.{WrittenPath, written_path}
 use Rattle.df_runs.specs.Runs.{Run, run_of}
 use Rattle.df_search.specs.Searches.{Searching, StandsBefore, Finds, Passes}

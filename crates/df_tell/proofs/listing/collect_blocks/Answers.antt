@@ -1,4 +1,4 @@
-use Rattle.std.proofs.Common.{◌++◌, ◌∷◌, [], ap, sym, ◌∙◌, append_assoc, append-nil}
+use Rattle.std.proofs.Common.{◌++◌, ◌∷◌, [], ap, sym, ◌∙◌, append_assoc}
 use Rattle.df_tell.proofs.listing.collect_blocks.Goals as goal
 
 pub loop-block-preserved : goal.loop-block-preserved

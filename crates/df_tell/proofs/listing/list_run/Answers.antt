@@ -1,4 +1,4 @@
-use Rattle.std.proofs.Common.{◌≡◌, [], ap, ◌∙◌}
+use Rattle.std.proofs.Common.{[], ap, ◌∙◌}
 use Rattle.df_list.specs.Listings.{Listed}
 use Rattle.df_tell.specs.Listing.{with_designs, designs_of}
 use Rattle.df_tell.specs.RunSteps.{run_left}
