@@ -8,6 +8,7 @@
 mod answers;
 mod laws;
 mod limits;
+mod listing;
 mod matrix;
 mod orbits;
 mod resume;
@@ -28,6 +29,8 @@ pub use tasks::SOURCE_BYTES;
 mod chain_tests;
 #[cfg(test)]
 mod design_tests;
+#[cfg(test)]
+mod listing_tests;
 #[cfg(test)]
 mod matrix_tests;
 #[cfg(test)]
