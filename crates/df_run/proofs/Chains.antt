@@ -33,7 +33,7 @@ use Rattle.df_dossier.specs.declared.spent.Spent.{Spent}
 use Rattle.df_tell.specs.RunBack.{SpentTextsReadBack}
 use Rattle.df_words.specs.declared.command.Options.{Options}
 use Rattle.df_words.specs.declared.table.TheConstants.{MOST_BUDGET}
-use Rattle.df_run.specs.Answers.{Answer, answer, answer_to, answer_spent, within, at_node, shown_by, search_answer, run_answer}
+use Rattle.df_run.specs.Answers.{Answer, answer, answer_to, answer_spent, within, at_node, shown_by, search_answer, solve_answer, run_answer}
 use Rattle.df_run.specs.Chains.{and_resumed, is_spent, searches, budgets_of, AreBudgets, all_steps, last_stop, designs_after, IsChain, ChainsAreAnswered}
 use Rattle.df_run.specs.Headline.{designs_in}
 use Rattle.df_run.specs.Limits.{limit_of, matrix_limit, path_refusal}
@@ -42,6 +42,7 @@ use Rattle.df_run.specs.declared.tasks.SourceTask.TheVariants.{Solve}
 use Rattle.df_run.specs.declared.tasks.StreamTask.TheVariants.{Resume}
 use Rattle.df_run.proofs.PathRefusals.{node_goes_on}
 use Rattle.df_run.proofs.SearchRuns.{at_start, designs_all}
+use Rattle.df_run.proofs.Listings.{told_as_dossier}
 
 -- within the limits there are at most MOST_COLUMNS columns
 past_subsets : (version points size count : ℕ) (rest : Option MatrixError) → option_and_then limit_of (or_else (option_map passed_by (subset_limit_of version points size count)) rest) ≡ None → option_and_then limit_of rest ≡ None
@@ -123,9 +124,9 @@ module _ (runs : RunsAreWhole) (chains : ChainsAreRuns) (reasons : PathsHaveReas
 module _ (keep : SourcesKeepTheirRules) (keep_spent : SpentKeepTheirRules) (systems : OrbitSystemsAreSystems) (runs : RunsAreWhole) (chains : ChainsAreRuns) (reasons : PathsHaveReasons) (paths : PathsAreRead) (read_back : SpentTextsReadBack) (theorem : DesignsAreSolutions) where
   pub chains_answered : ChainsAreAnswered
   chains_answered = record {
-    solved = λ bytes s first more few is fits low.
+    solved = λ bytes s first more plain few is fits low.
         let kept = keep bytes s few is in
-        let answered : answer (Source (Solve first)) bytes ≡ search_answer Divisor s first [] = ap (answer_to (Solve first)) is ∙ ap (λ limit. within limit (search_answer Divisor s first [])) fits in
+        let answered : answer (Source (Solve first)) bytes ≡ search_answer Divisor s first [] = ap (answer_to (Solve first)) is ∙ ap (λ limit. within limit (solve_answer s first)) fits ∙ told_as_dossier s first plain in
         subst (λ a. IsChain Divisor s [] (asked s) (first ∷ more) (and_resumed a more)) (sym answered)
         (chain_is runs chains reasons paths read_back Divisor s kept (systems s kept) fits first more [] (asked s) (at_start Divisor (orbit_system s)) low (designs_all s (theorem s kept)));
     resumed = λ bytes d first more few is fits node low.

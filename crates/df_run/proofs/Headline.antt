@@ -44,10 +44,10 @@ use Rattle.df_tell.specs.Check.{complete_text}
 use Rattle.df_tell.specs.declared.limits.Limit.{Limit}
 use Rattle.df_tell.specs.declared.path.PathRefusal.{PathRefusal}
 use Rattle.df_run.specs.declared.tasks.Task.TheVariants.{Source, Stream, Work}
-use Rattle.df_run.specs.Answers.{Answer, answer_to, answer_spent, answer_work, answer_broken, answer_checked, verdict_answer, within, at_node, run_answer, search_answer}
+use Rattle.df_run.specs.Answers.{Answer, answer_to, answer_spent, answer_work, answer_broken, answer_checked, verdict_answer, within, at_node, run_answer, search_answer, solve_answer}
 use Rattle.df_run.specs.Limits.{matrix_limit, path_refusal}
 use Rattle.df_run.specs.Endings.{EndsAs, Answers, IsUnreadByWork}
-use Rattle.df_run.specs.Headline.{Headline, IsAccepted, IsRefused, IsFinished, IsStopped, IsSolved, IsSpent, IsResumed, IsResumedSpent, IsWorked, IsWorkedSpent, IsChecked}
+use Rattle.df_run.specs.Headline.{Headline, IsAccepted, IsRefused, IsFinished, IsStopped, IsSolved, IsSpent, IsListed, IsListedSpent, IsResumed, IsResumedSpent, IsWorked, IsWorkedSpent, IsChecked}
 use Rattle.df_run.specs.Streams.{Incoming, Outgoing}
 use Rattle.df_run.specs.Tasks.{task_of}
 use Rattle.df_run.specs.Readings.{LeavesInput}
@@ -59,6 +59,7 @@ use Rattle.df_run.specs.declared.tasks.StreamTask.TheVariants.{Resume, Check}
 use Rattle.df_run.proofs.PathRefusals.{no_refusal}
 use Rattle.df_run.proofs.SearchRuns.{at_start, designs_all, finishes, stops}
 use Rattle.df_run.proofs.Workloads.{works, works_spent, source_short}
+use Rattle.df_run.proofs.Listings.{told_as_listing, told_as_dossier, lists, lists_spent}
 
 -- the first that passes is a member, and passes
 found_in : {X : Type 0} (t : X → Bool) (xs : List X) (x : X) → find t xs ≡ Some x → In xs x × (t x ≡ true)
@@ -181,17 +182,41 @@ module _ (keep : SourcesKeepTheirRules) (keep_spent : SpentKeepTheirRules) (line
   whole_run : (s : Stated) → IsStated s → (n : ℕ) → IsRunFrom Divisor (orbit_system s) [] n (run_of Divisor (orbit_system s) [] n)
   whole_run s rules n = runs Divisor (orbit_system s) [] n (systems s rules) (at_start Divisor (orbit_system s))
 
-  solved_with : (options : Options) (bytes : List ℕ) → length bytes ≤ MOST_BYTES → (r : Result Stated SourceError) → source bytes ≡ r → ends.Done ≡ (answer_to (Solve options) r).status → Appends o.written o.written_after (answer_to (Solve options) r).text → IsSolved options o bytes
-  solved_with options bytes few (Ok s) is status text =
-      let rules = keep bytes s few is in
-      record { problem = s; source_is = is; search = solves options o theorem s rules _ (whole_run s rules options.budget) (matrix_limit s) status text }
-  solved_with options bytes few (Err e) is status text = absurd (cc)
+  -- the answer is this one
+  as_told : (s : Stated) (a b : Answer) → a ≡ b → (result : Status) → result ≡ (within (matrix_limit s) a).status → result ≡ (within (matrix_limit s) b).status
+  as_told s a b same result status = subst (λ (x : Answer). result ≡ (within (matrix_limit s) x).status) same status
 
-  spent_with : (options : Options) (bytes : List ℕ) → length bytes ≤ MOST_BYTES → (r : Result Stated SourceError) → source bytes ≡ r → ends.Spent ≡ (answer_to (Solve options) r).status → Appends o.written o.written_after (answer_to (Solve options) r).text → IsSpent options o bytes
-  spent_with options bytes few (Ok s) is status text =
+  as_written : (s : Stated) (a b : Answer) → a ≡ b → Appends o.written o.written_after (within (matrix_limit s) a).text → Appends o.written o.written_after (within (matrix_limit s) b).text
+  as_written s a b same text = subst (λ (x : Answer). Appends o.written o.written_after (within (matrix_limit s) x).text) same text
+
+  solved_with : (options : Options) → options.json ≡ false → (bytes : List ℕ) → length bytes ≤ MOST_BYTES → (r : Result Stated SourceError) → source bytes ≡ r → ends.Done ≡ (answer_to (Solve options) r).status → Appends o.written o.written_after (answer_to (Solve options) r).text → IsSolved options o bytes
+  solved_with options plain bytes few (Ok s) is status text =
       let rules = keep bytes s few is in
-      record { problem = s; source_is = is; search = spends options o theorem s rules _ (whole_run s rules options.budget) (matrix_limit s) status text }
-  spent_with options bytes few (Err e) is status text = absurd (cc)
+      let same = told_as_dossier s options plain in
+      record { problem = s; source_is = is; search = solves options o theorem s rules _ (whole_run s rules options.budget) (matrix_limit s) (as_told s _ _ same ends.Done status) (as_written s _ _ same text) }
+  solved_with options plain bytes few (Err e) is status text = absurd (cc)
+
+  spent_with : (options : Options) → options.json ≡ false → (bytes : List ℕ) → length bytes ≤ MOST_BYTES → (r : Result Stated SourceError) → source bytes ≡ r → ends.Spent ≡ (answer_to (Solve options) r).status → Appends o.written o.written_after (answer_to (Solve options) r).text → IsSpent options o bytes
+  spent_with options plain bytes few (Ok s) is status text =
+      let rules = keep bytes s few is in
+      let same = told_as_dossier s options plain in
+      record { problem = s; source_is = is; search = spends options o theorem s rules _ (whole_run s rules options.budget) (matrix_limit s) (as_told s _ _ same ends.Spent status) (as_written s _ _ same text) }
+  spent_with options plain bytes few (Err e) is status text = absurd (cc)
+
+  -- and where a listing is asked for
+  listed_with : (options : Options) → options.json ≡ true → (bytes : List ℕ) → length bytes ≤ MOST_BYTES → (r : Result Stated SourceError) → source bytes ≡ r → ends.Done ≡ (answer_to (Solve options) r).status → Appends o.written o.written_after (answer_to (Solve options) r).text → IsListed options o bytes
+  listed_with options json bytes few (Ok s) is status text =
+      let rules = keep bytes s few is in
+      let same = told_as_listing s options json in
+      lists theorem options o bytes s rules is _ (whole_run s rules options.budget) (matrix_limit s) (as_told s _ _ same ends.Done status) (as_written s _ _ same text)
+  listed_with options json bytes few (Err e) is status text = absurd (cc)
+
+  listed_spent_with : (options : Options) → options.json ≡ true → (bytes : List ℕ) → length bytes ≤ MOST_BYTES → (r : Result Stated SourceError) → source bytes ≡ r → ends.Spent ≡ (answer_to (Solve options) r).status → Appends o.written o.written_after (answer_to (Solve options) r).text → IsListedSpent options o bytes
+  listed_spent_with options json bytes few (Ok s) is status text =
+      let rules = keep bytes s few is in
+      let same = told_as_listing s options json in
+      lists_spent theorem options o bytes s rules is _ (whole_run s rules options.budget) (matrix_limit s) (as_told s _ _ same ends.Spent status) (as_written s _ _ same text)
+  listed_spent_with options json bytes few (Err e) is status text = absurd (cc)
 
   -- what `resume` answers to them
   resumed_with : (options : Options) (bytes : List ℕ) → length bytes ≤ MOST_BYTES → (r : Result Spent Refusal) → spent bytes ≡ r → ends.Done ≡ (answer_spent options r).status → Appends o.written o.written_after (answer_spent options r).text → IsResumed options o bytes
@@ -236,12 +261,18 @@ module _ (keep : SourcesKeepTheirRules) (keep_spent : SpentKeepTheirRules) (line
     refused = λ is refused.
         let answers = subst (λ r. Answers (Source Verify) i o r) refused (asks words result commands.Verify ended (verify_line words is) (λ usage. absurd (cc)) (λ fault. absurd (cc))) in
         IfSome_then i.left answers.1 (λ bytes read. refused_with bytes (omega (arith, read.0)) (source bytes) refl read.1.0);
-    solved = λ options line done.
+    solved = λ options line plain done.
         let answers = subst (λ r. Answers (Source (Solve options)) i o r) done (asks words result (commands.Solve options) ended line (λ usage. absurd (cc)) (λ fault. absurd (cc))) in
-        IfSome_then i.left answers.1 (λ bytes read. solved_with options bytes (omega (arith, read.0)) (source bytes) refl read.1.0 read.1.1);
-    spent = λ options line spent.
+        IfSome_then i.left answers.1 (λ bytes read. solved_with options plain bytes (omega (arith, read.0)) (source bytes) refl read.1.0 read.1.1);
+    spent = λ options line plain spent.
         let answers = subst (λ r. Answers (Source (Solve options)) i o r) spent (asks words result (commands.Solve options) ended line (λ usage. absurd (cc)) (λ fault. absurd (cc))) in
-        IfSome_then i.left answers.1.1 (λ bytes read. spent_with options bytes (omega (arith, read.0)) (source bytes) refl read.1.0 read.1.1);
+        IfSome_then i.left answers.1.1 (λ bytes read. spent_with options plain bytes (omega (arith, read.0)) (source bytes) refl read.1.0 read.1.1);
+    listed = λ options line json done.
+        let answers = subst (λ r. Answers (Source (Solve options)) i o r) done (asks words result (commands.Solve options) ended line (λ usage. absurd (cc)) (λ fault. absurd (cc))) in
+        IfSome_then i.left answers.1 (λ bytes read. listed_with options json bytes (omega (arith, read.0)) (source bytes) refl read.1.0 read.1.1);
+    listed_spent = λ options line json stops.
+        let answers = subst (λ r. Answers (Source (Solve options)) i o r) stops (asks words result (commands.Solve options) ended line (λ usage. absurd (cc)) (λ fault. absurd (cc))) in
+        IfSome_then i.left answers.1.1 (λ bytes read. listed_spent_with options json bytes (omega (arith, read.0)) (source bytes) refl read.1.0 read.1.1);
     resumed = λ options line done.
         let answers = subst (λ r. Answers (Stream (Resume options)) i o r) done (asks words result (commands.Resume options) ended line (λ usage. absurd (cc)) (λ fault. absurd (cc))) in
         IfSome_then i.left answers.1 (λ bytes read. resumed_with options bytes (omega (arith, read.0)) (spent bytes) refl read.1.0 read.1.1);

@@ -3,6 +3,7 @@ pub mod PathRefusals
 pub mod StreamEndings
 pub mod SearchRuns
 pub mod Workloads
+pub mod Listings
 pub mod Headline
 pub mod EntryLimits
 pub mod BlockLimits

@@ -1,5 +1,5 @@
 -- What is answered to an input: a status and a text. What a row says stands in the module of that text, in df_tell.
-use Rattle.std.specs.Prelude.{ℕ, Bool, List, [], Option, Some, None, Result, Ok, Err}
+use Rattle.std.specs.Prelude.{ℕ, Bool, List, [], if◌then◌else◌, Option, Some, None, Result, Ok, Err}
 use Rattle.df_walk.specs.declared.Rules.{Rules}
 use Rattle.df_walk.specs.declared.Rules.TheVariants.{Divisor}
 use Rattle.df_walk.specs.Paths.{path_of}
@@ -22,6 +22,7 @@ use Rattle.df_tell.specs.Verdict.{verdict_text}
 use Rattle.df_tell.specs.Orbits.{orbits_text}
 use Rattle.df_tell.specs.Matrix.{matrix_text}
 use Rattle.df_tell.specs.Run.{run_text}
+use Rattle.df_tell.specs.Listing.{run_listing}
 use Rattle.df_tell.specs.Refusal.{refusal_text}
 use Rattle.df_tell.specs.Dossier.{dossier_text}
 use Rattle.df_tell.specs.Path.{path_refusal_text}
@@ -87,14 +88,29 @@ run_answer rules s options p run = record { status = stop_status run.stop; text 
 abbrev pub search_answer : Rules → Stated → Options → List Bool → Answer
 search_answer rules s options p = run_answer rules s options p (run_of rules (orbit_system s) p options.budget)
 
--- what is answered to a problem; a new search goes by the rules with divisors, from the empty path
+-- the run of a new search, as a listing
+abbrev pub listing_answer : Stated → Options → Run → Answer
+listing_answer s options run = record { status = stop_status run.stop; text = run_listing options.blocks s run }
+
+-- as a listing where that is asked for, and else as a dossier
+abbrev pub told_text : Stated → Options → Run → List ℕ
+told_text s options run = if options.json then run_listing options.blocks s run else run_text Divisor s (shown_by options) [] run
+
+abbrev pub told_answer : Stated → Options → Run → Answer
+told_answer s options run = record { status = stop_status run.stop; text = told_text s options run }
+
+-- a new search goes by the rules with divisors, from the empty path
+abbrev pub solve_answer : Stated → Options → Answer
+solve_answer s options = told_answer s options (run_of Divisor (orbit_system s) [] options.budget)
+
+-- what is answered to a problem
 abbrev pub answer_on : SourceTask → Stated → Answer
 answer_on Show s = done (canonical_text s)
 answer_on Table s = done (table_text s)
 answer_on Verify s = verdict_answer s (verdict_on s)
 answer_on Orbits s = within (subsets_limit s) (done (orbits_text s))
 answer_on Matrix s = within (matrix_limit s) (done (matrix_text s))
-answer_on (Solve options) s = within (matrix_limit s) (search_answer Divisor s options [])
+answer_on (Solve options) s = within (matrix_limit s) (solve_answer s options)
 
 -- to a source, or to an input that is none
 abbrev pub answer_to : SourceTask → Result Stated SourceError → Answer

@@ -80,9 +80,10 @@ pub record IsChain (rules : Rules) (s : Stated) (p : List Bool) (designs : List 
   -- once the last search is finished, they are all
   pub finished : last_stop rules s p options ≡ None → designs_in s (all_steps rules s p options) ≡ designs
 
--- a chain that begins with a source, and one that begins with a dossier whose path is a node, of problems within the limits
+-- a chain that begins with a source, its first text being no listing, since none is gone on with; and one that begins with a dossier whose
+-- path is a node, of problems within the limits
 pub record ChainsAreAnswered : Type 0 where
-  pub solved : (bytes : List ℕ) (s : Stated) (first : Options) (more : List Options) → length bytes ≤ MOST_BYTES → source bytes ≡ Ok s → matrix_limit s ≡ None → AreBudgets (first ∷ more)
+  pub solved : (bytes : List ℕ) (s : Stated) (first : Options) (more : List Options) → first.json ≡ false → length bytes ≤ MOST_BYTES → source bytes ≡ Ok s → matrix_limit s ≡ None → AreBudgets (first ∷ more)
       → IsChain Divisor s [] (asked s) (first ∷ more) (and_resumed (answer (Source (Solve first)) bytes) more)
   pub resumed : (bytes : List ℕ) (d : Spent) (first : Options) (more : List Options) → length bytes ≤ MOST_BYTES → spent bytes ≡ Ok d → matrix_limit d.problem ≡ None → IsNode d.rules (orbit_system d.problem) (path_of d.path) → AreBudgets (first ∷ more)
       → IsChain d.rules d.problem (path_of d.path) (designs_from d.problem (path_of d.path)) (first ∷ more) (and_resumed (answer (Stream (Resume first)) bytes) more)

@@ -1,5 +1,5 @@
 -- What an answer says of designs: a field a sentence, over the bytes read, the bytes written and the status.
-use Rattle.std.specs.Prelude.{◌≡◌, ℕ, ◌+◌, ◌≤◌, ◌<◌, Bool, false, List, [], ◌∷◌, ◌++◌, codes, length, map, Some, None, Ok, IfSome}
+use Rattle.std.specs.Prelude.{◌≡◌, ℕ, ◌+◌, ◌≤◌, ◌<◌, Bool, true, false, List, [], ◌∷◌, ◌++◌, codes, length, map, Some, None, Ok, IfSome}
 use Rattle.std.specs.List.{flat_map}
 use Rattle.std.specs.List.Sorted.{IsPermutation}
 use Rattle.std.specs.Io.KnownBytes.{Appends}
@@ -26,6 +26,7 @@ use Rattle.df_check.specs.Chains.{IsChain, designs_of, log_of}
 use Rattle.df_tell.specs.Check.{complete_text}
 use Rattle.df_tell.specs.Verdict.{accepted_text}
 use Rattle.df_tell.specs.Run.{head_text, source_text, from_text, design_lines, end_text, run_text}
+use Rattle.df_tell.specs.Listing.{designs_listing}
 use Rattle.df_tell.specs.Workload.{workload_line}
 use Rattle.df_tell.specs.declared.run.Shown.{Shown}
 use Rattle.df_words.specs.CommandLines.{IsCommandLine}
@@ -110,6 +111,28 @@ pub record IsSpent (options : Options) (o : Outgoing) (bytes : List ℕ) : Type 
   pub source_is : source bytes ≡ Ok problem
   pub search : IsStopped Divisor problem [] (asked problem) options o
 
+-- a source, and a search for all designs that its problem asks for, told as a listing. It came to its end: the designs listed are all
+-- that are asked for, in their order, each by its base blocks, and by all blocks too where these are shown; no path follows; and the nodes told
+-- are all, for which the budget pays
+pub record IsListed (options : Options) (o : Outgoing) (bytes : List ℕ) : Type 0 where
+  pub problem : Stated
+  pub source_is : source bytes ≡ Ok problem
+  pub printed : Appends o.written o.written_after (designs_listing options.blocks problem (asked problem) None (nodes_from Divisor problem []))
+  pub paid : nodes_from Divisor problem [] ≤ options.budget
+
+-- or to a stop: the designs listed and those from the place that follows on, a node, are all that are asked for; the nodes told are the
+-- budget, and with those from the place on they are all nodes, of which there are more than the budget
+pub record IsListedSpent (options : Options) (o : Outgoing) (bytes : List ℕ) : Type 0 where
+  pub problem : Stated
+  pub source_is : source bytes ≡ Ok problem
+  pub designs : List (List (List ℕ))
+  pub place : List Bool
+  pub printed : Appends o.written o.written_after (designs_listing options.blocks problem designs (Some place) options.budget)
+  pub designs_are : designs ++ designs_from problem place ≡ asked problem
+  pub node : IsNode Divisor (orbit_system problem) place
+  pub before : options.budget + nodes_from Divisor problem place ≡ nodes_from Divisor problem []
+  pub unpaid : options.budget < nodes_from Divisor problem []
+
 -- a dossier that ended spent at a node, and a search by the rules of its head for the designs from there on
 pub record IsResumed (options : Options) (o : Outgoing) (bytes : List ℕ) : Type 0 where
   pub dossier : Spent
@@ -160,8 +183,10 @@ pub record IsChecked (o : Outgoing) (bytes : List ℕ) : Type 0 where
 pub record Headline (words : List (List ℕ)) (i : Incoming) (o : Outgoing) (result : Status) : Type 0 where
   pub verified : words ≡ codes "verify" ∷ [] → result ≡ ends.Done → IfSome i.left (IsAccepted o)
   pub refused : words ≡ codes "verify" ∷ [] → result ≡ ends.Refused → IfSome i.left IsRefused
-  pub solved : (options : Options) → IsCommandLine words (Solve options) → result ≡ ends.Done → IfSome i.left (IsSolved options o)
-  pub spent : (options : Options) → IsCommandLine words (Solve options) → result ≡ ends.Spent → IfSome i.left (IsSpent options o)
+  pub solved : (options : Options) → IsCommandLine words (Solve options) → options.json ≡ false → result ≡ ends.Done → IfSome i.left (IsSolved options o)
+  pub spent : (options : Options) → IsCommandLine words (Solve options) → options.json ≡ false → result ≡ ends.Spent → IfSome i.left (IsSpent options o)
+  pub listed : (options : Options) → IsCommandLine words (Solve options) → options.json ≡ true → result ≡ ends.Done → IfSome i.left (IsListed options o)
+  pub listed_spent : (options : Options) → IsCommandLine words (Solve options) → options.json ≡ true → result ≡ ends.Spent → IfSome i.left (IsListedSpent options o)
   pub resumed : (options : Options) → IsCommandLine words (Resume options) → result ≡ ends.Done → IfSome i.left (IsResumed options o)
   pub resumed_spent : (options : Options) → IsCommandLine words (Resume options) → result ≡ ends.Spent → IfSome i.left (IsResumedSpent options o)
   pub worked : (n : ℕ) → IsCommandLine words (Workload n) → result ≡ ends.Done → IsWorked n o

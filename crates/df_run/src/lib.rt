@@ -11,6 +11,7 @@ mod answers;
 mod check;
 mod laws;
 mod limits;
+mod listing;
 mod matrix;
 mod orbits;
 mod resume;
@@ -35,6 +36,8 @@ mod check_chain_tests;
 mod check_tests;
 #[cfg(test)]
 mod design_tests;
+#[cfg(test)]
+mod listing_tests;
 #[cfg(test)]
 mod matrix_tests;
 #[cfg(test)]

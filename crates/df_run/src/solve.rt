@@ -1,13 +1,13 @@
 // The designs that a problem asks for: the run of a new search through its orbit matrix, by the rules with divisors.
-// All memory is taken before the first byte: by the matrix, and by the search when it is made.
+// All memory is taken before the first byte: by the matrix, by the search when it is made, and by a listing.
 ghost use Rattle.std.specs.Prelude.{◌≡◌, ◌≤◌, ◌<◌, []};
-ghost use Rattle.df_run.specs.Answers.{answer_on, search_answer};
+ghost use Rattle.df_run.specs.Answers.{answer_on, solve_answer};
 ghost use Rattle.df_run.specs.Endings.{RepliesOr};
 ghost use Rattle.df_run.specs.Streams.{outgoing};
-ghost use Rattle.df_walk.specs.declared.Rules.TheVariants as rules;
 
 use crate::answers::ended;
 use crate::limits::LimitError;
+use crate::listing::answer_listing;
 use crate::matrix::matrix_of_problem;
 use crate::search::answer_designs;
 use crate::statuses::Status;
@@ -60,7 +60,7 @@ fn answer_start<O: Sink, L: Ledger>(
     requires parts { blank.parts ≡ L.parts }
     requires some { 0 < blank.parts }
     requires matrix { matrix.now ≡ problem.now }
-    ensures reply { RepliesOr (search_answer rules.Divisor problem.now options []) (outgoing O.written O.faults out.old out.new) result }
+    ensures reply { RepliesOr (solve_answer problem.now options) (outgoing O.written O.faults out.old out.new) result }
     ensures writes { O.faults out.old ≤ O.faults out.new }
 {
     let mut steps = Steps::<L>::new(blank);
@@ -68,5 +68,9 @@ fn answer_start<O: Sink, L: Ledger>(
     let Ok(mut designs) = Designs::start(alloc, matrix, rules, &mut steps) else {
         return Status::OutOfMemory;
     };
-    answer_designs(options, problem, &mut designs, rules, out, &mut steps)
+    if options.json {
+        answer_listing(alloc, options, problem, &mut designs, out, &mut steps)
+    } else {
+        answer_designs(options, problem, &mut designs, rules, out, &mut steps)
+    }
 }

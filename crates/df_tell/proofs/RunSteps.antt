@@ -60,7 +60,7 @@ pub tells_as : {K : Type 0} {w : K → Option (List ℕ)} {f : K → ℕ} {shown
 tells_as {w = w} {f = f} {shown = shown} {s = s} {q = q} {new = new} {c = c} {d = d} {a = a} {b = b} {g = g} {h = h} is tells = subst (λ t. Tells w f shown s q new c d a b g h t) (sym is) tells
 
 -- nothing was passed yet
-pub paid_nothing : {s : Stated} {q : Remaining} {c : Counts} → Pays s q q c c
+unfoldable pub paid_nothing : {s : Stated} {q : Remaining} {c : Counts} → Pays s q q c c
 paid_nothing = record {
   steps = [];
   joined = refl;
@@ -77,7 +77,7 @@ unfolding paid_nothing
 tells_nothing = record { pays = paid_nothing; gathers = gathers_nothing }
 
 -- steps, and then steps
-pub paid_then : {s : Stated} {q0 q1 q2 : Remaining} {c0 c1 c2 : Counts} → Pays s q0 q1 c0 c1 → Pays s q1 q2 c1 c2 → Pays s q0 q2 c0 c2
+unfoldable pub paid_then : {s : Stated} {q0 q1 q2 : Remaining} {c0 c1 c2 : Counts} → Pays s q0 q1 c0 c1 → Pays s q1 q2 c1 c2 → Pays s q0 q2 c0 c2
 paid_then {s = s} first second =
     let y = orbit_system s in
     record {
@@ -130,7 +130,7 @@ pub chosen_is : (s : Stated) (q new : Remaining) (n left : ℕ) → IsOf s q →
 chosen_is s q new n left is finds = finds.chosen ∙ ap Some (finds.solution_is ∙ ap (λ y. yes_vector (length y.columns) (decided new.search.path)) is.system)
 
 -- all up to a design was passed
-pub finds_paid : {s : Stated} {q new : Remaining} {c d : Counts} → IsOf s q → new.problem ≡ q.problem → Finds q.search c.left new.search d.left → d.designs ≡ c.designs + 1 → Pays s q new c d
+unfoldable pub finds_paid : {s : Stated} {q new : Remaining} {c d : Counts} → IsOf s q → new.problem ≡ q.problem → Finds q.search c.left new.search d.left → d.designs ≡ c.designs + 1 → Pays s q new c d
 finds_paid {s = s} is problem finds counted =
     let passed = finds.passes.passed in
     let found : solutions_in (orbit_system s) passed ≡ finds.solution ∷ [] = ap (λ y. solutions_in y passed) (sym is.system) ∙ finds.passes.solutions in
@@ -163,7 +163,7 @@ pub finds_pays : (q new : Searching) (n left : ℕ) → Finds q n new left → l
 finds_pays q new n left finds = omega (arith, finds.passes.nodes, ap length finds.passes.solutions, sols_few q.system finds.passes.passed)
 
 -- entries without a solution were passed
-pub passes_paid : {s : Stated} {q new : Remaining} {c d : Counts} → IsOf s q → new.problem ≡ q.problem → Passes q.search c.left new.search d.left [] → d.designs ≡ c.designs → Pays s q new c d
+unfoldable pub passes_paid : {s : Stated} {q new : Remaining} {c d : Counts} → IsOf s q → new.problem ≡ q.problem → Passes q.search c.left new.search d.left [] → d.designs ≡ c.designs → Pays s q new c d
 passes_paid {s = s} is problem passes counted =
     let found : solutions_in (orbit_system s) passes.passed ≡ [] = ap (λ y. solutions_in y passes.passed) (sym is.system) ∙ passes.solutions in
     record {

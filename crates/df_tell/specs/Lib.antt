@@ -5,6 +5,7 @@ pub mod Counts
 pub mod Dossier
 pub mod Gathered
 pub mod Limits
+pub mod Listing
 pub mod Matrix
 pub mod Orbits
 pub mod OwnLogs

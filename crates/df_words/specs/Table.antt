@@ -36,11 +36,13 @@ flagged word =
     (if bytes_eq word (codes "--blocks") then Some flag.Blocks else
     (if bytes_eq word (codes "--json") then Some flag.Json else None)))
 
--- whether a command has an option: a search, new or going on, has a budget, a log, and the blocks of its designs
+-- whether a command has an option: a search, new or going on, has a budget, a log, and the blocks of its designs; a new one may
+-- be told as JSON
 abbrev pub takes : Name → Flag → Bool
 takes name.Solve flag.Budget = true
 takes name.Solve flag.Log = true
 takes name.Solve flag.Blocks = true
+takes name.Solve flag.Json = true
 takes name.Resume flag.Budget = true
 takes name.Resume flag.Log = true
 takes name.Resume flag.Blocks = true
@@ -106,9 +108,9 @@ with_option stated flag.Log n = record stated { log = true }
 with_option stated flag.Blocks n = record stated { blocks = true }
 with_option stated flag.Json n = record stated { json = true }
 
--- the options of a search: each as stated, and else the default budget, no log and no blocks
+-- the options of a search: each as stated, and else the default budget, no log, no blocks and no JSON
 abbrev pub options_in : Stated → Options
-options_in stated = record { budget = unwrap_or stated.budget DEFAULT_BUDGET; log = stated.log; blocks = stated.blocks }
+options_in stated = record { budget = unwrap_or stated.budget DEFAULT_BUDGET; log = stated.log; blocks = stated.blocks; json = stated.json }
 
 -- the command of a name, its number and the options stated
 abbrev pub command_named : Name → ℕ → Stated → Command

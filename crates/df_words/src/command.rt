@@ -7,8 +7,11 @@ pub struct Options {
     pub budget: u64,
     /// Whether the log is written: each entry that the search comes by.
     pub log: bool,
-    /// Whether all blocks of each design are written, as comments.
+    /// Whether all blocks of each design are written, as comments or beside its base blocks.
     pub blocks: bool,
+    /// Whether the designs are written as a JSON listing, in place of a dossier. It is never stated with the log, nor to a
+    /// search that goes on.
+    pub json: bool,
 }
 
 /// What the program is asked to do.

@@ -107,7 +107,6 @@ pub fn takes(name: Name, flag: Flag) -> bool
         (Name::Verify, _) => false,
         (Name::Orbits, _) => false,
         (Name::Matrix, _) => false,
-        (Name::Solve, Flag::Json) => false,
         (Name::Solve, _) => true,
         (Name::Resume, Flag::Json) => false,
         (Name::Resume, _) => true,
@@ -201,6 +200,7 @@ impl Stated {
             budget: self.budget.unwrap_or(DEFAULT_BUDGET),
             log: self.log,
             blocks: self.blocks,
+            json: self.json,
         }
     }
 }

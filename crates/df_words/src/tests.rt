@@ -58,6 +58,7 @@ fn reads_the_options_of_a_search_in_any_order(rt: HostRuntime) -> Result<(), Fai
             budget,
             log,
             blocks,
+            json: false,
         };
         assert_eq!(rt; read(rt.alloc(), words)?, Ok(Command::Solve(options)));
     }
@@ -87,8 +88,32 @@ fn reads_the_options_of_a_search_that_goes_on(rt: HostRuntime) -> Result<(), Fai
             budget,
             log,
             blocks,
+            json: false,
         };
         assert_eq!(rt; read(rt.alloc(), words)?, Ok(Command::Resume(options)));
+    }
+    Ok(())
+}
+
+#[test]
+fn reads_the_options_of_a_listing_in_any_order(rt: HostRuntime) -> Result<(), Fail> {
+    for (words, budget, blocks) in [
+        (&["solve", "--json"][..], 1_000_000_000, false),
+        (&["solve", "--json", "--blocks"][..], 1_000_000_000, true),
+        (&["solve", "--budget", "3", "--json"][..], 3, false),
+        (
+            &["solve", "--blocks", "--json", "--budget", "03"][..],
+            3,
+            true,
+        ),
+    ] {
+        let options = Options {
+            budget,
+            log: false,
+            blocks,
+            json: true,
+        };
+        assert_eq!(rt; read(rt.alloc(), words)?, Ok(Command::Solve(options)));
     }
     Ok(())
 }
@@ -146,7 +171,9 @@ fn names_the_first_word_at_fault(rt: HostRuntime) -> Result<(), Fail> {
         (&["matrix", "7"][..], 2),
         (&["table", ""][..], 2),
         (&["solve", "log"][..], 2),
-        (&["solve", "--json"][..], 2),
+        (&["solve", "json"][..], 2),
+        (&["solve", "--JSON"][..], 2),
+        (&["solve", "--json=1"][..], 2),
         (&["solve", "--budget"][..], 3),
         (&["solve", "--budget", "0"][..], 3),
         (&["solve", "--budget", "-1"][..], 3),
@@ -154,12 +181,21 @@ fn names_the_first_word_at_fault(rt: HostRuntime) -> Result<(), Fail> {
         (&["solve", "--budget", "--log"][..], 3),
         (&["solve", "--log", "--log"][..], 3),
         (&["solve", "--log", "--json"][..], 3),
+        (&["solve", "--json", "--log"][..], 3),
+        (&["solve", "--json", "--json"][..], 3),
+        (&["solve", "--json", "--budget"][..], 4),
+        (&["solve", "--json", "--budget", "0"][..], 4),
+        (&["solve", "--json", "--budget", "1", "--log"][..], 5),
+        (&["solve", "--json", "--blocks", "--json"][..], 4),
         (&["solve", "--blocks", "--log", "--blocks"][..], 4),
         (&["solve", "--budget", "2", "--budget", "2"][..], 4),
         (&["solve", "--budget", "2", "3"][..], 4),
         (&["resume", "solve"][..], 2),
         (&["resume", "--json"][..], 2),
         (&["resume", "--log", "--json"][..], 3),
+        (&["resume", "--budget", "1", "--json"][..], 4),
+        (&["verify", "--json"][..], 2),
+        (&["workload", "7", "--json"][..], 3),
         (&["resume", "--budget", "0"][..], 3),
         (&["resume", "--budget", "1000000000000001"][..], 3),
         (&["resume", "--log", "--blocks", "--log"][..], 4),
