@@ -3,11 +3,11 @@ ghost use Rattle.std.specs.Prelude.{◌≡◌, IfOk};
 ghost use Rattle.df_check.specs.Judging.{running_on, runs_with, finished_at};
 ghost use Rattle.df_check.specs.Stops.{Gives, Moves};
 
-use crate::OutOfMemory;
 use crate::design_checker::Checker;
-use crate::same_source::SameSource;
+use crate::same_source::{SameSource, line_count};
 use crate::stop::Stop;
-use df_dossier::{Piece, SourceText};
+use crate::{Entry, Fed, LogFault, OutOfMemory};
+use df_dossier::{DesignRead, DossierFault, PathRead, Piece, SourceText, read_design, read_path};
 use df_matrix::OrbitMatrix;
 use df_system::Path;
 use std::alloc::Global;
@@ -90,56 +90,58 @@ impl<'m> Running<'m> {
     }
 
     // The number of source lines.
-    fn source_count(&mut self, number: u64, count: u64) -> Result<(), Stop>
-        ensures { Moves (runs_with self.old number [] (piece.SourceCount count)) self.new result }
-    {
+    fn source_count(&mut self, number: u64, count: u64) -> Result<(), Stop> {
         self.awaited = SameSource::all(self.source);
-        ruled(number, unless(count == line_count(self.source), LogFault::SourceDiffers))
+        ruled(
+            number,
+            unless(count == line_count(self.source), LogFault::SourceDiffers),
+        )
     }
 
     // A source line.
-    fn source_line(&mut self, number: u64, line: &[u8]) -> Result<(), Stop>
-        ensures { Moves (runs_with self.old number line.now piece.SourceLine) self.new result }
-    {
+    fn source_line(&mut self, number: u64, line: &[u8]) -> Result<(), Stop> {
         let same = self.awaited.is_next(line);
         ruled(number, unless(same, LogFault::SourceDiffers))
     }
 
     // The path where a dossier begins.
-    fn start(&mut self, alloc: Global, number: u64, line: &[u8]) -> Result<(), Stop>
-        ensures { Moves (runs_with self.old number line.now piece.RunFrom) self.new result }
-    {
+    fn start(&mut self, alloc: Global, number: u64, line: &[u8]) -> Result<(), Stop> {
         let path = path_of(alloc, number, line, DossierFault::BadHead)?;
-        ruled(number, unless(is_place(&self.place, &path), LogFault::ChainBroken))
+        ruled(
+            number,
+            unless(is_place(&self.place, &path), LogFault::ChainBroken),
+        )
     }
 
     // An entry.
-    fn entry(&mut self, number: u64, entry: Entry) -> Result<(), Stop>
-        ensures { Moves (with_entry self.old number entry) self.new result }
-    {
+    fn entry(&mut self, number: u64, entry: Entry) -> Result<(), Stop> {
         let fed = self.checker.feed(entry);
         ruled(number, fault_of(fed))
     }
 
     // A design line.
-    fn design(&mut self, alloc: Global, number: u64, line: &[u8]) -> Result<(), Stop>
-        ensures { Moves (runs_with self.old number line.now piece.Design) self.new result }
-    {
-        let blocks = design_of(alloc, self.matrix.problem(), number, line)?;
-        let fed = self.checker.feed_design(&blocks);
-        ruled(number, fault_of(fed))
+    fn design(&mut self, alloc: Global, number: u64, line: &[u8]) -> Result<(), Stop> {
+        match read_design(alloc, self.matrix.problem(), line) {
+            Ok(blocks) => {
+                let fed = self.checker.feed_design(&blocks);
+                ruled(number, fault_of(fed))
+            }
+            Err(DesignRead::Bad) => Err(Stop::BadLine {
+                line: number,
+                fault: DossierFault::BadDesign,
+            }),
+            Err(DesignRead::OutOfMemory) => Err(Stop::OutOfMemory),
+        }
     }
 
     // An end line of a search that came to its end.
-    fn finish(&mut self, number: u64) -> Result<(), Stop>
-    {
+    fn finish(&mut self, number: u64) -> Result<(), Stop> {
         self.place = None;
         ruled(number, unless(self.checker.closed(), LogFault::OpenAtEnd))
     }
 
     // An end line of a search that stopped.
-    fn stop(&mut self, alloc: Global, number: u64, line: &[u8]) -> Result<(), Stop>
-    {
+    fn stop(&mut self, alloc: Global, number: u64, line: &[u8]) -> Result<(), Stop> {
         let path = path_of(alloc, number, line, DossierFault::BadEnd)?;
         self.place = Some(path);
         self.last = number;
@@ -152,7 +154,46 @@ impl<'m> Running<'m> {
     {
         match &self.place {
             None => Ok(self.checker.designs()),
-            Some(_) => Err(Stop::BadLog { line: self.last, fault: LogFault::OpenAtEnd }),
+            Some(_) => Err(Stop::BadLog {
+                line: self.last,
+                fault: LogFault::OpenAtEnd,
+            }),
         }
+    }
+}
+
+fn unless(holds: bool, fault: LogFault) -> Option<LogFault> {
+    if holds { None } else { Some(fault) }
+}
+
+fn fault_of(fed: Fed) -> Option<LogFault> {
+    match fed {
+        Fed::Fault(fault) => Some(fault),
+        _ => None,
+    }
+}
+
+fn ruled(line: u64, fault: Option<LogFault>) -> Result<(), Stop> {
+    match fault {
+        None => Ok(()),
+        Some(fault) => Err(Stop::BadLog { line, fault }),
+    }
+}
+
+fn path_of(alloc: Global, number: u64, line: &[u8], fault: DossierFault) -> Result<Path, Stop> {
+    match read_path(alloc, line) {
+        Ok(path) => Ok(path),
+        Err(PathRead::Bad) => Err(Stop::BadLine {
+            line: number,
+            fault,
+        }),
+        Err(PathRead::OutOfMemory) => Err(Stop::OutOfMemory),
+    }
+}
+
+fn is_place(place: &Option<Path>, path: &Path) -> bool {
+    match place {
+        None => false,
+        Some(place) => place.length() == path.length() && *place.chosen() == *path.chosen(),
     }
 }
