@@ -18,3 +18,5 @@ pub mod VerdictDossiers
 pub mod GivenItems
 pub mod ChainVerdicts
 pub mod LimitsTold
+mod OpeningSteps
+mod InputSteps

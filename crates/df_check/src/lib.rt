@@ -21,17 +21,20 @@ pub mod design_checker;
 pub mod design_laws;
 mod fault_texts;
 mod judge;
+mod opening;
 pub mod laws;
 mod running;
 mod same_source;
 mod stop;
+mod streams;
 #[cfg(test)]
 mod tests;
 
 pub use checker::SystemChecker;
-pub use checks::{CheckError, CheckVerdict};
+pub use checks::{CheckError, CheckVerdict, check};
 pub use design_checker::Checker;
 pub use df_walk::{CutRow, Entry};
+pub use streams::check_stream;
 
 /// Out of memory.
 pub type OutOfMemory = std::alloc::AllocError;
