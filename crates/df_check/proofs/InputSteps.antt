@@ -1,5 +1,5 @@
 -- An input that is judged while it is read: a line more, its end, a stop, and the rest behind a stop.
-use Rattle.std.proofs.Common.{◌≡◌, ℕ, ◌+◌, ◌≤◌, ◌++◌, true, false, List, [], ◌∷◌, None, Some, Ok, Err, ⊤, refl, sym, ap, subst, ◌∙◌, append-nil, arith}
+use Rattle.std.proofs.Common.{◌≡◌, ℕ, ◌+◌, ◌≤◌, ◌++◌, true, false, List, [], ◌∷◌, None, Some, Ok, Err, refl, sym, ap, subst, ◌∙◌, append-nil, arith}
 use Rattle.std.specs.declared.option.Option.{Option}
 use Rattle.std.specs.Option.{IsSome}
 use Rattle.std.specs.Io.KnownBytes.{IsAtEnd}

@@ -20,3 +20,5 @@ pub mod ChainVerdicts
 pub mod LimitsTold
 mod OpeningSteps
 mod InputSteps
+mod CopiedFront
+mod InputVerdicts

@@ -49,19 +49,19 @@ IsPlaced o number = AreBetween o.judge.awaits o.at (length o.source) number
 
 -- the source isn't whole behind the line, and its lines are counted right
 abbrev pub StaysOpen : Awaits → ℕ → ℕ → ℕ → Type 0
-StaysOpen next at count number = (awaits_from next ≡ false) × AreBetween next at count (number + 1)
+StaysOpen after at count number = (awaits_from after ≡ false) × AreBetween after at count (number + 1)
 
 -- a line of this number that is this piece leaves source lines that are counted right, where this is awaited behind it
 abbrev pub FitsBehind : Piece → Awaits → ℕ → ℕ → ℕ → Type 0
-FitsBehind (piece.Head rules) next at count number = StaysOpen next at count number
-FitsBehind (piece.SourceCount n) next at count number = awaits_from next ≡ false
-FitsBehind piece.SourceLine next at count number = AreBetween next at (count + 1) (number + 1)
-FitsBehind piece.RunFrom next at count number = StaysOpen next at count number
-FitsBehind (piece.Entry e) next at count number = StaysOpen next at count number
-FitsBehind piece.Design next at count number = StaysOpen next at count number
-FitsBehind (piece.End finished designs nodes) next at count number = StaysOpen next at count number
-FitsBehind (piece.Bad f) next at count number = ⊤
-FitsBehind piece.Done next at count number = StaysOpen next at count number
+FitsBehind (piece.Head rules) after at count number = StaysOpen after at count number
+FitsBehind (piece.SourceCount n) after at count number = awaits_from after ≡ false
+FitsBehind piece.SourceLine after at count number = AreBetween after at (count + 1) (number + 1)
+FitsBehind piece.RunFrom after at count number = StaysOpen after at count number
+FitsBehind (piece.Entry e) after at count number = StaysOpen after at count number
+FitsBehind piece.Design after at count number = StaysOpen after at count number
+FitsBehind (piece.End finished designs nodes) after at count number = StaysOpen after at count number
+FitsBehind (piece.Bad f) after at count number = ⊤
+FitsBehind piece.Done after at count number = StaysOpen after at count number
 
 -- what is meant of a line is what is held after it, or it stops so
 abbrev pub GoesOn : Result Standing Refused → ℕ → Result Opened Stop → Type 0

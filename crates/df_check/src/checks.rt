@@ -1,9 +1,6 @@
 // Chains of dossiers, held as a slice.
 
-ghost use Rattle.std.specs.Prelude.{◌≡◌, ◌≤◌, ◌+◌, ◌-◌, ◌<◌, length, min, take, drop, Some, Ok};
-ghost use Rattle.std.specs.Io.{ReadsAtMost};
-ghost use Rattle.std.specs.Io.KnownBytes.{ReadConsumes};
-ghost use Rattle.df_io.specs.Causes.{HasCause};
+ghost use Rattle.std.specs.Prelude.{◌≡◌, ◌≤◌, ◌+◌, ◌<◌, [], ◌++◌, length, take, drop};
 ghost use Rattle.df_check.specs.Judging.{verdict};
 ghost use Rattle.df_check.specs.Checks.{GivesVerdict};
 
@@ -67,12 +64,23 @@ impl<'a> Source for SliceSource<'a> {
 
     ghost faults = { λ _. 0 };
 
-    fn read(&mut self, room: &mut [u8]) -> Result<usize, Failed>
-        requires { 0 < length room.old }
-    {
-        let count = room.len().min(self.bytes.len() - self.at);
-        room[..count].copy_from_slice(&self.bytes[self.at..self.at + count]);
+    fn read(&mut self, room: &mut [u8]) -> Result<usize, Failed> {
+        let count = copy_next(self.bytes, self.at, room);
         self.at += count;
         Ok(count)
     }
+}
+
+// Copies the next bytes to the front of `room`, and says how many.
+#[tactic(auto, using(crate::proofs::CopiedFront::given))]
+fn copy_next(bytes: &[u8], at: usize, room: &mut [u8]) -> usize
+    requires { at ≤ length bytes.now }
+    ensures bound { result ≤ length room.new }
+    ensures within { at + result ≤ length bytes.now }
+    ensures given { drop at bytes.now ≡ take result room.new ++ drop (at + result) bytes.now }
+    ensures end { result ≡ 0 → 0 < length room.new → drop (at + result) bytes.now ≡ [] }
+{
+    let count = room.len().min(bytes.len() - at);
+    room[..count].copy_from_slice(&bytes[at..at + count]);
+    count
 }

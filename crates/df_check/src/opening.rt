@@ -39,7 +39,7 @@ impl Opening {
     /// Takes the line of this number, where the source isn't whole.
     pub fn line(self, alloc: Global, number: u64, line: &[u8]) -> Result<Opening, Stop>
         requires plain { Lacks is_line_feed line.now }
-        requires open { awaits_from self.judge.awaits ≡ false }
+        requires unfinished { awaits_from self.judge.awaits ≡ false }
         requires place { IsPlaced self number }
         ensures goes { GoesOn (after_line (standing_of self) number line.now) number result }
         ensures place { IfOk result (λ o. IsPlaced o (number + 1)) }

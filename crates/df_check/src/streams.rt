@@ -1,8 +1,8 @@
 // Chains of dossiers, read from a source line by line: the memory is that of the longest line, beside the first source and
 // what its matrix and the checker take. After a line that breaks a rule the rest is read too, and kept nowhere: so an answer
 // about the bytes speaks of all of them, and a read that fails or too many bytes are told in its place.
-ghost use Rattle.std.specs.Prelude.{◌≡◌, ◌≤◌};
-ghost use Rattle.df_io.specs.Streams.{new_stream};
+ghost use Rattle.std.specs.Prelude.{◌≡◌, ◌≤◌, IfErr, Ok, Err, Some, true, false};
+ghost use Rattle.df_io.specs.Streams.{Reads, IsNextLine, IsNoLine, IsStream, new_stream};
 ghost use Rattle.df_check.specs.Checks.{ReadsVerdict};
 ghost use Rattle.df_check.specs.Inputs.{Judges, Opens, refusal_of, stopped_by};
 ghost use Rattle.df_check.specs.declared.stop.Stop.TheVariants.{OutOfMemory as OutOfMemoryStop};
@@ -90,7 +90,7 @@ fn judge<S: Source>(alloc: Global, reading: &mut Reading, input: &mut S) -> Resu
     let opening = open(alloc, reading, input)?;
     let matrix = opening.matrix(alloc, reading.number())?;
     let mut chain = Chain::new(alloc, &matrix, &opening.source, opening.judge)?;
-    while reading.next_line(input)? {
+    while next_line(reading, input)? {
         chain.line(alloc, reading.number(), reading.line())?;
     }
     Ok(chain.end()?)
@@ -104,12 +104,27 @@ fn open<S: Source>(alloc: Global, reading: &mut Reading, input: &mut S) -> Resul
 {
     let mut opening = Opening::new(alloc);
     while !opening.is_whole() {
-        if !reading.next_line(input)? {
+        if !next_line(reading, input)? {
             return Err(Halt::Stopped(opening.end()));
         }
         opening = opening.line(alloc, reading.number(), reading.line())?;
     }
     Ok(opening)
+}
+
+// Reads the next line, where one is left, as `Reading::next_line` does, and the reading keeps its limits.
+fn next_line<S: Source>(reading: &mut Reading, input: &mut S) -> Result<bool, ReadError>
+    ensures reads { Reads S.left S.faults reading.old reading.new input.old input.new }
+    ensures keeps { IsStream reading.new }
+    ensures some { result ≡ Ok true
+        → IsNextLine reading.old reading.new (S.left input.old) (S.left input.new) }
+    ensures none { result ≡ Ok false
+        → IsNoLine reading.old reading.new (S.left input.old) (S.left input.new) }
+    ensures refused { IfErr result (λ e. reading.new.ended ≡ Some (Err e)) }
+{
+    let read = reading.next_line(input);
+    reading.keeps_limits();
+    read
 }
 
 // What is answered where judging stopped, and the rest was read.
