@@ -22,3 +22,4 @@ mod OpeningSteps
 mod InputSteps
 mod CopiedFront
 mod InputVerdicts
+pub mod JudgedMoves

@@ -1,5 +1,8 @@
 -- What a part of the judging gives: what is meant, the line that is refused, or out of memory.
-use Rattle.std.specs.Prelude.{◌≡◌, ℕ, ⊤, Result, Ok, Err}
+use Rattle.std.specs.Prelude.{◌≡◌, Option, Some, None, Result, Ok, Err}
+use Rattle.df_check.specs.declared.Fed.{Fed}
+use Rattle.df_check.specs.declared.Fed.TheVariants as fed
+use Rattle.df_check.specs.declared.LogFault.{LogFault}
 use Rattle.df_check.specs.declared.stop.Stop.{Stop}
 use Rattle.df_check.specs.declared.stop.Stop.TheVariants as stop
 use Rattle.df_check.specs.Judging.{Refused, stopped, BadLine, Above, BadLog}
@@ -9,7 +12,7 @@ abbrev pub Stops : {A : Type 0} → Result A Refused → Stop → Type 0
 Stops meant (stop.BadLine line f) = meant ≡ stopped line (BadLine f)
 Stops meant (stop.BadLog line f) = meant ≡ stopped line (BadLog f)
 Stops meant (stop.Above line e) = meant ≡ stopped line (Above e)
-Stops meant stop.OutOfMemory = ⊤
+Stops meant stop.OutOfMemory = Unit {0}
 
 -- what is meant is this value, or it stops so
 abbrev pub Gives : {A : Type 0} → Result A Refused → Result A Stop → Type 0
@@ -20,3 +23,9 @@ Gives meant (Err s) = Stops meant s
 abbrev pub Moves : {A : Type 0} → Result A Refused → A → Result Unit Stop → Type 0
 Moves meant new (Ok done) = meant ≡ Ok new
 Moves meant new (Err s) = Stops meant s
+
+-- the fault that a checker answers, if it answers one
+abbrev pub fault_in : Fed → Option LogFault
+fault_in fed.Ok = None
+fault_in fed.WantsDesign = None
+fault_in (fed.Fault fault) = Some fault

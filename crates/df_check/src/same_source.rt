@@ -53,7 +53,7 @@ impl<'m> SameSource<'m> {
         ensures later { self.new ≡ after_awaited self.old }
     {
         match self.lines.next() {
-            Some(next) => &self.text[next.start..next.end] == line,
+            Some(next) => line == &self.text[next.start..next.end],
             None => false,
         }
     }
