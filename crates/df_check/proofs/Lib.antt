@@ -18,4 +18,8 @@ pub mod VerdictDossiers
 pub mod GivenItems
 pub mod ChainVerdicts
 pub mod LimitsTold
+mod OpeningSteps
+mod InputSteps
+mod CopiedFront
+mod InputVerdicts
 pub mod JudgedMoves

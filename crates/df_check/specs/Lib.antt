@@ -10,5 +10,7 @@ pub mod DesignLaws
 pub mod Chains
 pub mod Judging
 pub mod Stops
+pub mod Openings
 pub mod Checks
+pub mod Inputs
 pub mod ChainLaws

@@ -5,11 +5,12 @@
 //! The crates above feed a checker, and print a fault by its `text`. They may rest on the clauses, and on the laws: a checker is
 //! closed exactly where what it was fed is one log that proves its leaves, in any order of branching, and the designs of a closed
 //! one are all that its problem asks for.
-//! An input that is a chain of dossiers is judged line by line by the definitions of `specs/Judging`: the laws say that it is
-//! complete exactly where its lines are a chain.
+//! An input that is a chain of dossiers is judged line by line by the definitions of `specs/Judging`, as a slice by `check` and from
+//! a source by `check_stream`: the laws say that it is complete exactly where its lines are a chain.
 //! Laws for the rooms above: those of `laws`, of `design_laws` and of `chain_laws`, and proofs/DesignLeaves.
 //! An entry costs the time of its row's numbers or its column's cells, and of what it takes back; a cut, a residue, a leaf or a
-//! design line may pass all columns. All memory is taken in `SystemChecker::new` and `Checker::new`.
+//! design line may pass all columns. All memory of a checker is taken in `SystemChecker::new` and `Checker::new`; an input is read
+//! once, and takes that of its first source, of the source's matrix and of its longest line beside it.
 #![tactic(auto)]
 
 mod chain;
@@ -22,16 +23,19 @@ pub mod design_laws;
 mod fault_texts;
 mod judge;
 pub mod laws;
+mod opening;
 mod running;
 mod same_source;
 mod stop;
+mod streams;
 #[cfg(test)]
 mod tests;
 
 pub use checker::SystemChecker;
-pub use checks::{CheckError, CheckVerdict};
+pub use checks::{CheckError, CheckVerdict, check};
 pub use design_checker::Checker;
 pub use df_walk::{CutRow, Entry};
+pub use streams::check_stream;
 
 /// Out of memory.
 pub type OutOfMemory = std::alloc::AllocError;

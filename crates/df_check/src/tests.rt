@@ -4,6 +4,7 @@ ghost use Rattle.df_runs.specs.WeightedSums.{IsBounded};
 ghost use Rattle.df_system.specs.declared.limits.TheConstants.{MOST_COLUMNS};
 ghost use Rattle.df_check.specs.declared.TheConstants.{MOST_VALUE};
 
+mod chains;
 mod design_logs;
 mod fault_texts;
 mod random_designs;
