@@ -3,7 +3,7 @@ use Rattle.std.proofs.Common.{◌≡◌, ℕ, ◌+◌, ◌≤◌, ◌++◌, true
 use Rattle.std.specs.declared.option.Option.{Option}
 use Rattle.std.specs.Option.{IsSome}
 use Rattle.std.specs.Io.KnownBytes.{IsAtEnd}
-use Rattle.std.specs.Prelude.{Result, ◌⊎◌}
+use Rattle.std.specs.Prelude.{Result, ◌⊎◌, IsErrAnd}
 use mathlib.Core.Logic.{inl, inr}
 use Rattle.df_io.specs.declared.bytes.ReadError.{ReadError}
 use Rattle.df_io.specs.declared.bytes.ReadError.TheVariants as read_error
@@ -11,7 +11,13 @@ use Rattle.df_io.specs.declared.bytes.TheConstants.{MOST_BYTES}
 use Rattle.df_io.specs.Causes.{ConsumesAtMost}
 use Rattle.df_io.specs.Lines.{lines_of}
 use Rattle.df_io.specs.Streams.{Stream, Reads, IsStream, IsNextLine, IsNoLine, new_stream}
+use Rattle.df_lang.specs.Problems.{Stated}
 use Rattle.df_lang.specs.Rules.{◌>>=◌}
+use Rattle.df_dossier.specs.declared.judge.Awaits.{Awaits}
+use Rattle.df_dossier.specs.declared.judge.Awaits.TheVariants as awaits
+use Rattle.df_dossier.specs.Judging.{awaits_from}
+use Rattle.df_dossier.specs.Dossiers.{source_lines}
+use Rattle.df_check.specs.declared.opening.Opening.{Opening as Opened}
 use Rattle.df_dossier.specs.declared.stream.StreamError.TheVariants as stream
 use Rattle.df_dossier.specs.StreamReads.{IsRead, EndsEarly}
 use Rattle.df_dossier.specs.SpentStreams.{ReadsAll}
@@ -22,9 +28,11 @@ use Rattle.df_check.specs.declared.stop.Stop.TheVariants as stop
 use Rattle.df_check.specs.declared.streams.Halt.{Halt}
 use Rattle.df_check.specs.declared.streams.Halt.TheVariants.{Early, Stopped}
 use Rattle.df_check.specs.Checks.{ReadsVerdict}
-use Rattle.df_check.specs.Inputs.{Says, HoldsOnceRead, Halts, stopped_by, refusal_of}
-use Rattle.df_check.specs.Judging.{Refused, Standing, nothing_read, after_line, at_end, verdict_from, verdict}
-use Rattle.df_check.specs.Stops.{Stops}
+use Rattle.df_check.specs.Inputs.{Says, HoldsOnceRead, Halts, Judges, Opens, stopped_by, refusal_of}
+use Rattle.df_check.specs.Judging.{Refused, Standing, Opening, Runs, nothing_read, opened, stated_by, running_on, after_line, at_end, verdict_from, verdict}
+use Rattle.df_check.specs.Openings.{opening_of, standing_of, standing_after, GoesOn, States}
+use Rattle.df_check.specs.Stops.{Stops, Moves}
+use Rattle.df_check.proofs.OpeningSteps.{open_after}
 
 -- what stops goes on stopping
 stops_on : {A B : Type 0} → (meant : Result A Refused) → (f : A → Result B Refused) → (why : Stop) → Stops meant why → Stops (meant >>= f) why
@@ -48,11 +56,11 @@ ended_early left left_new faults faults_new read_error.TooLong early = early
 ended_early left left_new faults faults_new read_error.OutOfMemory early = early
 
 -- what stopped it, once the rest was read
-pub refused_once_read : (left left_new : Option (List ℕ)) (faults faults_new : ℕ) (why : Stop) → ConsumesAtMost left left_new MOST_BYTES → ReadsAll left left_new (λ bytes. Stops (verdict bytes) why) → ReadsVerdict left left_new faults faults_new (refusal_of why)
-refused_once_read left left_new faults faults_new (stop.BadLine line f) most all = all
-refused_once_read left left_new faults faults_new (stop.BadLog line f) most all = all
-refused_once_read left left_new faults faults_new (stop.Above line e) most all = (all.0, all.1, all.2, all.3, line, all.4)
-refused_once_read left left_new faults faults_new stop.OutOfMemory most all = most
+pub refused_once_read : (left left_new : Option (List ℕ)) (faults faults_new : ℕ) (why : Stop) → ReadsAll left left_new (λ bytes. Stops (verdict bytes) why) → ReadsVerdict left left_new faults faults_new (refusal_of why)
+refused_once_read left left_new faults faults_new (stop.BadLine line f) all = all
+refused_once_read left left_new faults faults_new (stop.BadLog line f) all = all
+refused_once_read left left_new faults faults_new (stop.Above line e) all = (all.0, all.1, all.2, all.3, (line, all.4))
+refused_once_read left left_new faults faults_new stop.OutOfMemory all = (all.0, all.1, all.3)
 
 module _ {S : Type 0} (left : S → Option (List ℕ)) (faults : S → ℕ) (first : S) where
   -- what was taken before the rest is read keeps to the limit
@@ -91,3 +99,49 @@ module _ {S : Type 0} (left : S → Option (List ℕ)) (faults : S → ℕ) (fir
         read_more left faults first i j old new text is reads next,
         λ rest none. subst (λ m. Stops m why) (says_more st _ says refl rest none) (stops_on _ _ why stops_so),
       )
+
+pub says_unfinished : (o : Opened) (s : Stream) (text : List ℕ) → awaits_from o.judge.awaits ≡ false → Says (standing_after o s.number) s text → Says (Ok (standing_of o)) s text
+says_unfinished o s text not_whole says = subst (λ m. Says m s text) (open_after o s.number not_whole) says
+
+-- what a line does, by its number and its bytes
+module _ (st : Standing) {number n : ℕ} {line l : List ℕ} (number_is : number ≡ n) (line_is : line ≡ l) where
+  moved : (P : ℕ → List ℕ → Type 0) → P number line → P n l
+  moved P holds = subst (P n) line_is (subst (λ n. P n line) number_is holds)
+
+  pub opening_stops : (r : Result Opened Stop) (why : Stop) → GoesOn (after_line st number line) number r → r ≡ Err why → Stops (after_line st n l) why
+  opening_stops r why goes was = moved (λ n l. Stops (after_line st n l) why) (subst (GoesOn (after_line st number line) number) was goes)
+
+  pub opening_goes : (r : Result Opened Stop) (o : Opened) → GoesOn (after_line st number line) number r → r ≡ Ok o → after_line st n l ≡ standing_after o n
+  opening_goes r o goes was = moved (λ n l. after_line st n l ≡ standing_after o n) (subst (GoesOn (after_line st number line) number) was goes)
+
+  pub chain_stops : (new : Standing) (r : Result (Unit {0}) Stop) (why : Stop) → Moves (after_line st number line) new r → r ≡ Err why → Stops (after_line st n l) why
+  chain_stops new r why moves was = moved (λ n l. Stops (after_line st n l) why) (subst (Moves (after_line st number line) new) was moves)
+
+  pub chain_moves : (new : Standing) (r : Result (Unit {0}) Stop) (done : Unit {0}) → Moves (after_line st number line) new r → r ≡ Ok done → after_line st n l ≡ Ok new
+  chain_moves new r done moves was = moved (λ n l. after_line st n l ≡ Ok new) (subst (Moves (after_line st number line) new) was moves)
+
+-- the source is whole, and the chain begins
+whole_states : (o : Opening) (number : ℕ) (a : Awaits) → awaits_from a ≡ true → opened o number a ≡ stated_by o number (source_lines o.source)
+whole_states o number awaits.First whole = absurd (cc)
+whole_states o number (awaits.Count rules) whole = absurd (cc)
+whole_states o number (awaits.Source rules n) whole = absurd (cc)
+whole_states o number (awaits.From rules) whole = refl
+whole_states o number (awaits.Log rules) whole = absurd (cc)
+whole_states o number awaits.Next whole = absurd (cc)
+whole_states o number (awaits.Nothing f) whole = absurd (cc)
+
+pub chain_says : (o : Opened) (s : Stream) (text : List ℕ) (p : Stated) (chain : Standing) (number : ℕ) (r : Result Stated Stop) → awaits_from o.judge.awaits ≡ true → number ≡ s.number → States o number r → r ≡ Ok p
+    → chain ≡ record { awaits = o.judge.awaits; held = Runs (running_on o.source p) } → Says (standing_after o s.number) s text → Says (Ok chain) s text
+chain_says o s text p chain number r whole number_is states was is says =
+    let said : States o s.number (Ok p) = subst (λ n. States o n (Ok p)) number_is (subst (States o number) was states) in
+    subst (λ m. Says m s text) (ap (λ held. held >>= λ held. Ok record { awaits = o.judge.awaits; held = held }) (whole_states (opening_of o) s.number o.judge.awaits whole ∙ said) ∙ ap Ok (sym is)) says
+
+module _ {S : Type 0} (left : S → Option (List ℕ)) (faults : S → ℕ) (first : S) (s : Stream) (input : S) where
+  -- judging halted
+  pub opens_halted : (r : Result Opened Halt) (h : Halt) → IsErrAnd r (λ halt. halt ≡ h) → Halts left faults first s input h → Opens left faults first s input r
+  opens_halted (Ok o) h given halts = absurd given
+  opens_halted (Err halt) h given halts = subst (Halts left faults first s input) (sym given) halts
+
+  pub judges_halted : (r : Result ℕ Halt) (h : Halt) → IsErrAnd r (λ halt. halt ≡ h) → Halts left faults first s input h → Judges left faults first s input r
+  judges_halted (Ok designs) h given halts = absurd given
+  judges_halted (Err halt) h given halts = subst (Halts left faults first s input) (sym given) halts
