@@ -104,71 +104,66 @@ fn lines_between(alloc: Global, from: usize, to: usize) -> Result<String, AllocE
     Ok(text)
 }
 
+const STOP: &str = "end spent designs 0 nodes 1 next 3 1\n";
+
+const END: &str = "end finished designs 2 nodes 4\n";
+
+// The planes' log up to a line, in a dossier with this end line.
+fn begun(alloc: Global, cut: usize, end: &str) -> Result<String, AllocError> {
+    let lines = lines_between(alloc, 9, cut)?;
+    let mut text = String::new(alloc);
+    text.push_str(HEAD)?;
+    text.push_str("from 0\n")?;
+    text.push_str(lines.as_str())?;
+    text.push_str(end)?;
+    Ok(text)
+}
+
+// The same, and the other lines in a dossier that begins with this line.
+fn cut_at(alloc: Global, cut: usize, end: &str, from: &str) -> Result<String, AllocError> {
+    let mut text = begun(alloc, cut, end)?;
+    let lines = lines_between(alloc, cut, 16)?;
+    text.push_str(HEAD)?;
+    text.push_str(from)?;
+    text.push_str(lines.as_str())?;
+    text.push_str(END)?;
+    Ok(text)
+}
+
+// Compares the answer to an input with the refusal of a line.
+fn assert_refused_at(
+    rt: &(impl Abort + AllocGlobal),
+    input: &str,
+    line: usize,
+    fault: &str,
+) -> Result<(), Fail> {
+    let wanted = format!(in rt.alloc(); "refused line {line} {fault}\n")?;
+    assert_checked(rt, input, 1, wanted.as_str())
+}
+
 // A dossier may stop between any two lines, also between an entry and its design, and at any path, if the next one begins there.
 #[test]
 fn checks_chains_that_are_cut_anywhere(rt: HostRuntime) -> Result<(), Fail> {
-    let stop = "end spent designs 0 nodes 1 next 3 1\n";
-    let end = "end finished designs 2 nodes 4\n";
     for cut in 9..17usize {
-        let before = lines_between(rt.alloc(), 9, cut)?;
-        let after = lines_between(rt.alloc(), cut, 16)?;
-        let (before, after) = (before.as_str(), after.as_str());
-        let input = joined(
-            rt.alloc(),
-            &[
-                HEAD,
-                "from 0\n",
-                before,
-                stop,
-                HEAD,
-                "from 3 1\n",
-                after,
-                end,
-            ],
-        )?;
-        assert_checked(&rt, input.as_str(), 0, "complete 2\n")?;
-        // another path
-        let input = joined(
-            rt.alloc(),
-            &[
-                HEAD,
-                "from 0\n",
-                before,
-                stop,
-                HEAD,
-                "from 3 2\n",
-                after,
-                end,
-            ],
-        )?;
-        let wanted = format!(in rt.alloc(); "refused line {} ChainBroken\n", cut + 10)?;
-        assert_checked(&rt, input.as_str(), 1, wanted.as_str())?;
-        // nothing after the stop
-        let input = joined(rt.alloc(), &[HEAD, "from 0\n", before, stop])?;
-        let wanted = format!(in rt.alloc(); "refused line {} OpenAtEnd\n", cut + 1)?;
-        assert_checked(&rt, input.as_str(), 1, wanted.as_str())?;
-        // a finished dossier in place of the stop: its log is open, but for the whole one
-        let input = joined(
-            rt.alloc(),
-            &[
-                HEAD,
-                "from 0\n",
-                before,
-                end,
-                HEAD,
-                "from 3 1\n",
-                after,
-                end,
-            ],
-        )?;
-        let wanted = if cut < 16 {
-            format!(in rt.alloc(); "refused line {} OpenAtEnd\n", cut + 1)?
-        } else {
-            joined(rt.alloc(), &["refused line 26 ChainBroken\n"])?
-        };
-        assert_checked(&rt, input.as_str(), 1, wanted.as_str())?;
+        let chain = cut_at(rt.alloc(), cut, STOP, "from 3 1\n")?;
+        assert_checked(&rt, chain.as_str(), 0, "complete 2\n")?;
+        let elsewhere = cut_at(rt.alloc(), cut, STOP, "from 3 2\n")?;
+        assert_refused_at(&rt, elsewhere.as_str(), cut + 10, "ChainBroken")?;
+        let alone = begun(rt.alloc(), cut, STOP)?;
+        assert_refused_at(&rt, alone.as_str(), cut + 1, "OpenAtEnd")?;
     }
     Ok(())
+}
+
+// A dossier that is finished in place of spent: its log is open, but for the last one, which has all lines.
+#[test]
+fn refuses_dossiers_that_are_finished_early(rt: HostRuntime) -> Result<(), Fail> {
+    for cut in 9..16usize {
+        let chain = cut_at(rt.alloc(), cut, END, "from 3 1\n")?;
+        assert_refused_at(&rt, chain.as_str(), cut + 1, "OpenAtEnd")?;
+    }
+    let chain = cut_at(rt.alloc(), 16, END, "from 3 1\n")?;
+    assert_refused_at(&rt, chain.as_str(), 26, "ChainBroken")
 }
 
 // Each dossier has the source of the first, byte for byte; its head may be another.
