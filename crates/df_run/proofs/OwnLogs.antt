@@ -66,8 +66,8 @@ module _ (chains : OwnLogsAreChains) (decided : ChainsAreDecided) (rules : Rules
 module _ (answered : ChainsAreAnswered) (chains : OwnLogsAreChains) (decided : ChainsAreDecided) (keep : SourcesKeepTheirRules) (keep_spent : SpentKeepTheirRules) where
   pub own_logs_complete : OwnLogsAreComplete
   own_logs_complete = record {
-    solved = λ bytes s first more few is fits low logged finished short.
-        let chain = answered.solved bytes s first more few is fits low in
+    solved = λ bytes s first more plain few is fits low logged finished short.
+        let chain = answered.solved bytes s first more plain few is fits low in
         complete chains decided Divisor s (keep bytes s few is) fits (first ∷ more) low logged finished _ (ap joined_texts chain.answers_are) short;
     resumed = λ bytes d first more few is fits empty node low logged finished short.
         let at_start = subst (IsNode d.rules (orbit_system d.problem)) (sym empty) node in

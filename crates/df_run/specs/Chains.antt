@@ -100,10 +100,11 @@ AreLogged options = AllByRecursion (λ o. o.log ≡ true) options
 abbrev pub IsComplete : Stated → List ℕ → Type 0
 IsComplete s text = answer (Stream Check) text ≡ done (complete_text (length (asked s)))
 
--- What a chain of searches wrote, each with its log, is complete where it is joined: the chain begins with a source, or with a dossier
--- that goes on from the empty path; the last search is finished; and all texts together are no longer than an input may be.
+-- What a chain of searches wrote, each with its log, is complete where it is joined: the chain begins with a source, its first text
+-- being no listing, or with a dossier that goes on from the empty path; the last search is finished; and all texts together are no
+-- longer than an input may be.
 pub record OwnLogsAreComplete : Type 0 where
-  pub solved : (bytes : List ℕ) (s : Stated) (first : Options) (more : List Options) → length bytes ≤ MOST_BYTES → source bytes ≡ Ok s → matrix_limit s ≡ None → AreBudgets (first ∷ more) → AreLogged (first ∷ more)
+  pub solved : (bytes : List ℕ) (s : Stated) (first : Options) (more : List Options) → first.json ≡ false → length bytes ≤ MOST_BYTES → source bytes ≡ Ok s → matrix_limit s ≡ None → AreBudgets (first ∷ more) → AreLogged (first ∷ more)
       → last_stop Divisor s [] (first ∷ more) ≡ None
       → length (joined_texts (and_resumed (answer (Source (Solve first)) bytes) more)) ≤ MOST_BYTES
       → IsComplete s (joined_texts (and_resumed (answer (Source (Solve first)) bytes) more))

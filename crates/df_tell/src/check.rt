@@ -19,11 +19,7 @@ pub fn write_complete<K: Sink>(designs: u64, out: &mut K) -> Result<(), WriteFau
 
 /// Writes the line of a chain that breaks a rule of logs or of chains: its first line that does, from 1, and the fault with
 /// its numbers.
-pub fn write_log_refusal<K: Sink>(
-    line: u64,
-    fault: LogFault,
-    out: &mut K,
-) -> Result<(), WriteFault>
+pub fn write_log_refusal<K: Sink>(line: u64, fault: LogFault, out: &mut K) -> Result<(), WriteFault>
     ensures { Writes K.written K.faults out.old out.new (log_refusal_text line fault) result }
 {
     let mut text = LineBuf::new();
