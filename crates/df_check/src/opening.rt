@@ -56,13 +56,7 @@ impl Opening {
     }
 
     // Takes the line of this number, which the judge has come behind, and which is this piece.
-    fn piece(
-        self,
-        alloc: Global,
-        number: u64,
-        line: &[u8],
-        piece: Piece,
-    ) -> Result<Opening, Stop>
+    fn piece(self, alloc: Global, number: u64, line: &[u8], piece: Piece) -> Result<Opening, Stop>
         requires plain { Lacks is_line_feed line.now }
         requires place { FitsBehind piece self.judge.awaits self.at (length self.source) number }
         ensures goes { GoesOn (standing_with self number line.now piece) number result }

@@ -152,8 +152,11 @@ fn changed(alloc: Global, number: usize, lines: &[&[u8]]) -> Result<Answer, Allo
 }
 
 const BAD_WORD: DossierFault = DossierFault::BadSource(SourceFault::BadWord);
+
 const REPEATED: DossierFault = DossierFault::BadSource(SourceFault::Repeated);
+
 const NO_GROUP: DossierFault = DossierFault::BadSource(SourceFault::Missing(Needed::Group));
+
 const NOT_SETTLED: LogFault = LogFault::NotSettled { row: 0, need: 1 };
 
 #[test]
@@ -275,17 +278,37 @@ fn a_line_is_another(rt: HostRuntime) -> Result<(), Fail> {
     let answers: [(usize, &[u8], Answer); 13] = [
         (1, b"dossier 2", Answer::Complete(2)),
         (2, b"source 06 # six", Answer::Complete(2)),
-        (7, b"lambda 2000001", Answer::Line(7, DossierFault::BadSource(SourceFault::TargetRange))),
+        (
+            7,
+            b"lambda 2000001",
+            Answer::Line(7, DossierFault::BadSource(SourceFault::TargetRange)),
+        ),
         (8, b"# the hole is 1", Answer::Complete(2)),
         (9, b"from 1", Answer::Log(9, LogFault::ChainBroken)),
         (9, b"from 1 1", Answer::Line(9, DossierFault::BadHead)),
         (12, b"design 0 1", Answer::Line(12, DossierFault::BadDesign)),
-        (15, b"design 0 1 4", Answer::Log(15, LogFault::DesignDiffers { place: 0 })),
-        (15, b"design 0 1 5 ; 0 1 3", Answer::Log(15, LogFault::DesignDiffers { place: 1 })),
-        (16, b"over 0", Answer::Log(16, LogFault::NotOver { need: 1 })),
+        (
+            15,
+            b"design 0 1 4",
+            Answer::Log(15, LogFault::DesignDiffers { place: 0 }),
+        ),
+        (
+            15,
+            b"design 0 1 5 ; 0 1 3",
+            Answer::Log(15, LogFault::DesignDiffers { place: 1 }),
+        ),
+        (
+            16,
+            b"over 0",
+            Answer::Log(16, LogFault::NotOver { need: 1 }),
+        ),
         (16, b"residue 0 2", Answer::Line(16, DossierFault::BadEntry)),
         (17, b"end finished", Answer::Line(17, DossierFault::BadEnd)),
-        (17, b"end spent designs 2 nodes 4 next 1 1", Answer::Line(17, DossierFault::BadEnd)),
+        (
+            17,
+            b"end spent designs 2 nodes 4 next 1 1",
+            Answer::Line(17, DossierFault::BadEnd),
+        ),
     ];
     for (number, line, wanted) in answers {
         let answer = changed(alloc, number, &[line])?;
@@ -325,7 +348,10 @@ fn a_problem_is_held_to_the_limits(rt: HostRuntime) -> Result<(), Fail> {
         points: 64,
         size: 6,
     });
-    let answer = anyhow(alloc, b"dossier 1\nsource 3\ngroup 64\nk 6\nlambda 1\nwrong\n");
+    let answer = anyhow(
+        alloc,
+        b"dossier 1\nsource 3\ngroup 64\nk 6\nlambda 1\nwrong\n",
+    );
     assert_eq!(rt; answer, above);
     let answer = anyhow(alloc, b"dossier 1\nsource 4\ngroup 64\nk 6\nlambda 1\n");
     assert_eq!(rt; answer, Answer::Line(0, DossierFault::BadHead));
@@ -449,7 +475,10 @@ fn later_sources_are_the_first_one(rt: HostRuntime) -> Result<(), Fail> {
     for number in 3..9usize {
         for line in [b"wrong".as_slice(), b"", b"group 7 ", b"hole 1 # one"] {
             let answer = second_source(alloc, number, line)?;
-            assert_eq!(rt; answer, Answer::Log(13 + number as u64, LogFault::SourceDiffers));
+            assert_eq!(rt;
+                answer,
+                Answer::Log(13 + number as u64, LogFault::SourceDiffers)
+            );
         }
     }
     Ok(())
@@ -472,9 +501,18 @@ fn a_read_that_fails_is_told_in_place_of_all_else(rt: HostRuntime) -> Result<(),
     let good = with_lines(alloc, 0, &[])?;
     let texts = [
         (good, Answer::Complete(2)),
-        (with_lines(alloc, 1, &[b"wrong"])?, Answer::Line(1, DossierFault::BadHead)),
-        (with_lines(alloc, 11, &[])?, Answer::Log(11, LogFault::NotEntry)),
-        (with_lines(alloc, 17, &[])?, Answer::Line(0, DossierFault::BadEnd)),
+        (
+            with_lines(alloc, 1, &[b"wrong"])?,
+            Answer::Line(1, DossierFault::BadHead),
+        ),
+        (
+            with_lines(alloc, 11, &[])?,
+            Answer::Log(11, LogFault::NotEntry),
+        ),
+        (
+            with_lines(alloc, 17, &[])?,
+            Answer::Line(0, DossierFault::BadEnd),
+        ),
     ];
     for (text, wanted) in &texts {
         let reads = text.len() as u64 / 32 + 2;

@@ -1,4 +1,4 @@
-use Rattle.std.proofs.Common.{rules, ◌≡◌, ◌≤◌, Err, Some, sym, ap, subst, ◌∙◌, arith}
+use Rattle.std.proofs.Common.{rules, ◌≡◌, Err, Some, sym, ap, subst, ◌∙◌, arith}
 use Rattle.df_check.specs.declared.stop.Stop.TheVariants.{OutOfMemory}
 use Rattle.df_check.specs.declared.streams.Halt.TheVariants.{Stopped}
 use Rattle.df_check.specs.Checks.{ReadsVerdict}
@@ -30,8 +30,8 @@ returns-in-Ok-rest g c =
     let same : j.result ≡ Err (Stopped why) = search rules in
     let halted = subst (Judges left faults first j.new.reading j.new.input) same j.ensures.judged in record {
       given = subst (ReadsVerdict (left first) (left f.new.input) (faults first) (faults f.new.input)) (sym c.refusal.ensures)
-      (refused_once_read (left first) (left f.new.input) (faults first) (faults f.new.input) why
-      (rest_read left faults first j.new.input f.new.input j.new.reading f.new.self f.ensures.reads c.keeps_limits.ensures c.keeps_limits-in-Err-Stopped.ensures (λ bytes. Stops (verdict bytes) why) halted (f.ensures.ended ∙ ap Some c.in-Ok-rest.is) c.in-Ok-rest.ensures.end));
+          (refused_once_read (left first) (left f.new.input) (faults first) (faults f.new.input) why
+          (rest_read left faults first j.new.input f.new.input j.new.reading f.new.self f.ensures.reads c.keeps_limits.ensures c.keeps_limits-in-Err-Stopped.ensures (λ bytes. Stops (verdict bytes) why) halted (f.ensures.ended ∙ ap Some c.in-Ok-rest.is) c.in-Ok-rest.ensures.end));
       later = omega (arith, j.ensures.later, f.ensures.reads.later);
     }
 
@@ -47,7 +47,7 @@ returns g c =
     let same : j.result ≡ Err (Stopped why) = search rules in
     let halted = subst (Judges left faults first j.new.reading j.new.input) same j.ensures.judged in record {
       given = subst (λ r. ReadsVerdict (left first) (left f.new.input) (faults first) (faults f.new.input) (Err r)) (sym c.stopped-in-Err.ensures)
-      (ended_early (left first) (left f.new.input) (faults first) (faults f.new.input) c.in-Err.error
-      (rest_stops left faults first j.new.input f.new.input j.new.reading f.new.self f.ensures.reads c.keeps_limits.ensures c.keeps_limits-in-Err-Stopped.ensures (λ bytes. Stops (verdict bytes) why) halted c.in-Err.error (f.ensures.ended ∙ ap Some c.in-Err.is)));
+          (ended_early (left first) (left f.new.input) (faults first) (faults f.new.input) c.in-Err.error
+          (rest_stops left faults first j.new.input f.new.input j.new.reading f.new.self f.ensures.reads c.keeps_limits.ensures c.keeps_limits-in-Err-Stopped.ensures (λ bytes. Stops (verdict bytes) why) halted c.in-Err.error (f.ensures.ended ∙ ap Some c.in-Err.is)));
       later = omega (arith, j.ensures.later, f.ensures.reads.later);
     }

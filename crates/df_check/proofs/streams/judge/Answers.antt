@@ -55,7 +55,7 @@ loop-chain-preserved g c =
       text_more left faults first l.input n.new.input l.reading n.new.reading l.invariant.0 l.invariant.1 n.ensures.reads next,
       read_more left faults first l.input n.new.input l.reading n.new.reading l.invariant.0 l.invariant.1 n.ensures.reads next,
       says_more left faults first l.input n.new.input l.reading n.new.reading l.invariant.0 l.invariant.1 n.ensures.reads next l.chain (Ok moved.new.self) l.invariant.2
-      (chain_moves l.chain c.number-in-loop-chain.ensures c.line.ensures moved.new.self moved.result c.in_ok-line.field-0 moved.ensures c.in_ok-line.was),
+          (chain_moves l.chain c.number-in-loop-chain.ensures c.line.ensures moved.new.self moved.result c.in_ok-line.field-0 moved.ensures c.in_ok-line.was),
     )
 
 -- a line stops it

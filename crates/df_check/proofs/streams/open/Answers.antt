@@ -58,6 +58,6 @@ loop-alloc-preserved g c =
       text_more left faults first l.input n.new.input l.reading n.new.reading l.invariant.0 l.invariant.1 n.ensures.reads next,
       read_more left faults first l.input n.new.input l.reading n.new.reading l.invariant.0 l.invariant.1 n.ensures.reads next,
       says_more left faults first l.input n.new.input l.reading n.new.reading l.invariant.0 l.invariant.1 n.ensures.reads next (standing_of l.opening) (standing_after o n.new.reading.number) says
-      (opening_goes (standing_of l.opening) c.number.ensures c.line.ensures c.line-in-loop-alloc.result o c.line-in-loop-alloc.ensures.goes c.in_ok-opening.was),
+          (opening_goes (standing_of l.opening) c.number.ensures c.line.ensures c.line-in-loop-alloc.result o c.line-in-loop-alloc.ensures.goes c.in_ok-opening.was),
       subst (λ n. IsPlaced o (n + 1)) c.number.ensures c.in_ok-opening.ensures.place,
     )
