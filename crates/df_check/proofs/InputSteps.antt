@@ -1,16 +1,16 @@
 -- An input that is judged while it is read: a line more, its end, a stop, and the rest behind a stop.
-use Rattle.std.proofs.Common.{◌≡◌, ℕ, ◌+◌, ◌≤◌, ◌++◌, true, false, List, [], ◌∷◌, None, Some, Ok, Err, refl, sym, ap, subst, ◌∙◌, append-nil, arith}
+use Rattle.std.proofs.Common.{◌≡◌, ℕ, ◌+◌, true, false, List, [], None, Some, Ok, Err, refl, sym, ap, subst, ◌∙◌, append-nil}
 use Rattle.std.specs.declared.option.Option.{Option}
 use Rattle.std.specs.Option.{IsSome}
 use Rattle.std.specs.Io.KnownBytes.{IsAtEnd}
-use Rattle.std.specs.Prelude.{Result, ◌⊎◌, IsErrAnd}
+use Rattle.std.specs.Prelude.{Result, IsErrAnd}
 use mathlib.Core.Logic.{inl, inr}
 use Rattle.df_io.specs.declared.bytes.ReadError.{ReadError}
 use Rattle.df_io.specs.declared.bytes.ReadError.TheVariants as read_error
 use Rattle.df_io.specs.declared.bytes.TheConstants.{MOST_BYTES}
 use Rattle.df_io.specs.Causes.{ConsumesAtMost}
 use Rattle.df_io.specs.Lines.{lines_of}
-use Rattle.df_io.specs.Streams.{Stream, Reads, IsStream, IsNextLine, IsNoLine, new_stream}
+use Rattle.df_io.specs.Streams.{Stream, Reads, IsStream, IsNextLine, IsNoLine}
 use Rattle.df_lang.specs.Problems.{Stated}
 use Rattle.df_lang.specs.Rules.{◌>>=◌}
 use Rattle.df_dossier.specs.declared.judge.Awaits.{Awaits}
@@ -18,18 +18,16 @@ use Rattle.df_dossier.specs.declared.judge.Awaits.TheVariants as awaits
 use Rattle.df_dossier.specs.Judging.{awaits_from}
 use Rattle.df_dossier.specs.Dossiers.{source_lines}
 use Rattle.df_check.specs.declared.opening.Opening.{Opening as Opened}
-use Rattle.df_dossier.specs.declared.stream.StreamError.TheVariants as stream
 use Rattle.df_dossier.specs.StreamReads.{IsRead, EndsEarly}
 use Rattle.df_dossier.specs.SpentStreams.{ReadsAll}
-use Rattle.df_dossier.proofs.StreamReads.{start_read, read_at_most, stops, ends, passes, read_more, line_first, text_more}
-use Rattle.df_check.specs.declared.checks.CheckError.TheVariants as check_error
+use Rattle.df_dossier.proofs.StreamReads.{read_at_most, stops, ends, passes, read_more, line_first, text_more}
 use Rattle.df_check.specs.declared.stop.Stop.{Stop}
 use Rattle.df_check.specs.declared.stop.Stop.TheVariants as stop
 use Rattle.df_check.specs.declared.streams.Halt.{Halt}
-use Rattle.df_check.specs.declared.streams.Halt.TheVariants.{Early, Stopped}
+use Rattle.df_check.specs.declared.streams.Halt.TheVariants.{Stopped}
 use Rattle.df_check.specs.Checks.{ReadsVerdict}
 use Rattle.df_check.specs.Inputs.{Says, HoldsOnceRead, Halts, Judges, Opens, stopped_by, refusal_of}
-use Rattle.df_check.specs.Judging.{Refused, Standing, Opening, Runs, nothing_read, opened, stated_by, running_on, after_line, at_end, verdict_from, verdict}
+use Rattle.df_check.specs.Judging.{Refused, Standing, Opening, Runs, opened, stated_by, running_on, after_line, at_end, verdict_from, verdict}
 use Rattle.df_check.specs.Openings.{opening_of, standing_of, standing_after, GoesOn, States}
 use Rattle.df_check.specs.Stops.{Stops, Moves}
 use Rattle.df_check.proofs.OpeningSteps.{open_after}
@@ -40,10 +38,6 @@ stops_on meant f (stop.BadLine line e) is = ap (λ m. m >>= f) is
 stops_on meant f (stop.BadLog line e) is = ap (λ m. m >>= f) is
 stops_on meant f (stop.Above line e) is = ap (λ m. m >>= f) is
 stops_on meant f stop.OutOfMemory is = tt
-
--- nothing was read
-pub start_says : (s : Stream) → s ≡ new_stream MOST_BYTES → Says (Ok nothing_read) s []
-start_says s is = subst (λ s. Says (Ok nothing_read) s []) (sym is) (λ rest none. refl)
 
 -- no line is left
 pub end_says : (st : Standing) (s : Stream) (text : List ℕ) → Says (Ok st) s text → at_end st ≡ verdict text

@@ -21,5 +21,4 @@ pub mod LimitsTold
 mod OpeningSteps
 mod InputSteps
 mod CopiedFront
-mod InputVerdicts
 pub mod JudgedMoves

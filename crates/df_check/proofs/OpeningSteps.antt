@@ -1,5 +1,5 @@
 -- A line of an input while its first source isn't whole.
-use Rattle.std.proofs.Common.{◌≡◌, ℕ, ◌+◌, Bool, true, false, if◌then◌else◌, List, [], ◌∷◌, length, None, Some, Ok, Err, refl, sym, ap, subst, ◌∙◌, arith}
+use Rattle.std.proofs.Common.{◌≡◌, ℕ, ◌+◌, Bool, true, false, if◌then◌else◌, List, [], ◌∷◌, None, Some, Ok, Err, refl, sym, ap, subst, ◌∙◌, arith}
 use Rattle.std.specs.declared.option.Option.{Option}
 use Rattle.std.specs.Prelude.{⊤, Result, option_map}
 use Rattle.df_io.specs.Lines.{tokens_of}
@@ -17,7 +17,7 @@ use Rattle.df_dossier.specs.Judging.{judged, judged_or, line_judged, tokens_judg
 use Rattle.df_dossier.specs.Dossiers.{source_lines}
 use Rattle.df_dossier.specs.Entries.{entry_read}
 use Rattle.df_check.specs.declared.opening.Opening.{Opening as Opened}
-use Rattle.df_check.specs.Judging.{Opening, Opens, Runs, opened, opens_with, after_judged, stated_by, limited, running_on}
+use Rattle.df_check.specs.Judging.{Opening, Opens, Runs, opened, stated_by, limited, running_on}
 use Rattle.df_check.specs.Openings.{opening_of, standing_of, standing_after, AreBetween, FitsBehind, States, Limits}
 use Rattle.df_check.specs.Stops.{Stops}
 use Rattle.df_check.specs.declared.stop.Stop.{Stop}
@@ -35,16 +35,6 @@ stays o number (awaits.Nothing f) unfinished = refl
 pub open_after : (o : Opened) (number : ℕ) → awaits_from o.judge.awaits ≡ false → standing_after o number ≡ Ok (standing_of o)
 open_after o number unfinished = ap (λ held. held >>= λ held. Ok record { awaits = o.judge.awaits; held = held }) (stays (opening_of o) number o.judge.awaits unfinished)
 
--- the source is whole where its lines are counted right: they end with the line before this number
-pub whole_between : (a : Awaits) (at count number : ℕ) → awaits_from a ≡ true → AreBetween a at count number → at + 1 + count ≡ number
-whole_between awaits.First at count number whole between = absurd (cc)
-whole_between (awaits.Count rules) at count number whole between = absurd (cc)
-whole_between (awaits.Source rules n) at count number whole between = absurd (cc)
-whole_between (awaits.From rules) at count number whole between = between
-whole_between (awaits.Log rules) at count number whole between = absurd (cc)
-whole_between awaits.Next at count number whole between = absurd (cc)
-whole_between (awaits.Nothing f) at count number whole between = absurd (cc)
-
 -- a source line more
 pub between_more : (a : Awaits) (at count number : ℕ) → at + 1 + count ≡ number → AreBetween a at (count + 1) (number + 1)
 between_more awaits.First at count number is = tt
@@ -54,16 +44,6 @@ between_more (awaits.From rules) at count number is = omega (arith, is)
 between_more (awaits.Log rules) at count number is = tt
 between_more awaits.Next at count number is = tt
 between_more (awaits.Nothing f) at count number is = tt
-
--- no source line yet
-pub between_none : (a : Awaits) (number : ℕ) → AreBetween a number 0 (number + 1)
-between_none awaits.First number = tt
-between_none (awaits.Count rules) number = tt
-between_none (awaits.Source rules n) number = omega arith
-between_none (awaits.From rules) number = omega arith
-between_none (awaits.Log rules) number = tt
-between_none awaits.Next number = tt
-between_none (awaits.Nothing f) number = tt
 
 module _ (at count number : ℕ) where
   abbrev pub Fits : Option Judged → Type 0

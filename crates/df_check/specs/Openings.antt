@@ -1,5 +1,5 @@
 -- How what is held of an input is stored until its first source is whole.
-use Rattle.std.specs.Prelude.{◌≡◌, ℕ, ◌+◌, List, [], ◌∷◌, ◌++◌, length, ⊤, true, false, None, Result, Ok, Err}
+use Rattle.std.specs.Prelude.{◌≡◌, ℕ, ◌+◌, List, [], ◌∷◌, ◌++◌, length, ⊤, false, None, Result, Ok, Err}
 use Rattle.df_lang.specs.Rules.{◌>>=◌}
 use Rattle.df_lang.specs.Problems.{Stated}
 use Rattle.df_matrix.specs.Limits.{limit_passed}

@@ -1,4 +1,4 @@
-use Rattle.std.proofs.Common.{rules, ◌≡◌, ◌≤◌, Err, Some, sym, ap, subst, ◌∙◌, arith}
+use Rattle.std.proofs.Common.{rules, ◌≡◌, Err, Some, sym, ap, subst, ◌∙◌, arith}
 use Rattle.df_check.specs.declared.stop.Stop.TheVariants.{OutOfMemory}
 use Rattle.df_check.specs.declared.streams.Halt.TheVariants.{Stopped}
 use Rattle.df_check.specs.Checks.{ReadsVerdict}
