@@ -44,7 +44,7 @@ use Rattle.df_tell.specs.Check.{complete_text}
 use Rattle.df_tell.specs.declared.limits.Limit.{Limit}
 use Rattle.df_tell.specs.declared.path.PathRefusal.{PathRefusal}
 use Rattle.df_run.specs.declared.tasks.Task.TheVariants.{Source, Stream, Work}
-use Rattle.df_run.specs.Answers.{Answer, answer_to, answer_spent, answer_work, answer_broken, answer_checked, verdict_answer, within, at_node, run_answer, search_answer, solve_answer}
+use Rattle.df_run.specs.Answers.{Answer, answer_to, answer_spent, answer_work, answer_broken, answer_checked, verdict_answer, within, at_node, run_answer, search_answer}
 use Rattle.df_run.specs.Limits.{matrix_limit, path_refusal}
 use Rattle.df_run.specs.Endings.{EndsAs, Answers, IsUnreadByWork}
 use Rattle.df_run.specs.Headline.{Headline, IsAccepted, IsRefused, IsFinished, IsStopped, IsSolved, IsSpent, IsListed, IsListedSpent, IsResumed, IsResumedSpent, IsWorked, IsWorkedSpent, IsChecked}
