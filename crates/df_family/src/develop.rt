@@ -54,8 +54,8 @@ impl<'a> Develop<'a> {
         Develop::under(problem, Subgroup::whole(&problem.shape))
     }
 
-    // The whole development by the elements of a subgroup.
-    fn under(problem: &'a Problem, shifts: Subgroup) -> Develop<'a>
+    /// The whole development by the elements of a subgroup of the group, in their order, in place of all elements.
+    pub fn under(problem: &'a Problem, shifts: Subgroup) -> Develop<'a>
         requires { IsSubgroup problem.now.group shifts }
         ensures whole { result ≡ develop_under problem.now shifts }
         ensures blocks { All (IsBlock (point_count problem.now) problem.now.sizes) (develop_under problem.now shifts) }

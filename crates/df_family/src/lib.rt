@@ -2,6 +2,7 @@
 //! It stands on df_lang for problems, targets and balance, on df_group and df_subsets for the arithmetic of points, and on df_sets
 //! for the sets of shifts that fix a block.
 //! The crates above use `Develop`, `Table` and `verify`, and cite the definitions of its specs/; that a verdict tells balance is a clause of `verify`.
+//! Laws for the rooms above: proofs/BalanceLaws, proofs/CoverLaws, proofs/ShiftLaws, proofs/TranslateLaws, proofs/VerdictLaws.
 #![tactic(auto)]
 
 mod develop;
@@ -21,7 +22,7 @@ pub use laws::{
     verdict_tells_balance,
 };
 pub use table::{Row, Table, difference_table};
-pub use translate::stabilizer;
+pub use translate::{stabilizer, stabilizer_under};
 pub use verdict::{Verdict, verify};
 
 /// Out of memory.

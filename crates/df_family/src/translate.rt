@@ -4,7 +4,7 @@ ghost use Rattle.df_lists.specs.NumberSets.{has_member};
 ghost use Rattle.df_group.specs.Elements.{order_of, group_of, shifted as shifted_point};
 ghost use Rattle.df_group.specs.Subgroups.{IsSubgroup};
 ghost use Rattle.df_lang.specs.Problems.{point_count};
-ghost use Rattle.df_family.specs.Translates.{translate, fixes, stabilizer as stabilizer_of};
+ghost use Rattle.df_family.specs.Translates.{translate, fixes, stabilizer as stabilizer_of, stabilizer_under as stabilizer_under_of};
 
 use crate::problem_pieces::{order, sum};
 use df_group::{Elem, Subgroup};
@@ -20,6 +20,16 @@ pub fn stabilizer(problem: &Problem, block: &Block) -> u32
 {
     let elements = Subgroup::whole(&problem.shape);
     u32::from(fixing(problem, &elements, block).len())
+}
+
+/// How many elements g of a subgroup of the group there are with block + g = block, where the block's points lie below v.
+pub fn stabilizer_under(problem: &Problem, shifts: &Subgroup, block: &Block) -> u8
+    requires subgroup { IsSubgroup problem.now.group shifts.now }
+    requires points { All (λ p. p < point_count problem.now) block.now }
+    ensures count { result ≡ stabilizer_under_of problem.now shifts.now block.now }
+    ensures some { result ≤ length shifts.now }
+{
+    fixing(problem, shifts, block).len()
 }
 
 /// The elements g of a subgroup with block + g = block.
