@@ -1,10 +1,11 @@
 #!/usr/bin/env python3
 """Makes inputs and words, valid and spoiled, and compares what a program answers with what plain.py does, byte for byte.
 
-fuzz.py [--count N] [--seed S] [--seconds T] [--with mixed] [--keep FOLDER] [--forgeries] [--limits] PROGRAM
+fuzz.py [--count N] [--seed S] [--begin B] [--seconds T] [--with mixed] [--keep FOLDER] [--forgeries] [--limits] PROGRAM
 
 --count N      so many cases, 1,000 where it isn't stated; case number I of a seed is always the same
 --seed S       another list of cases, 1 where it isn't stated
+--begin B      begins with case B, counted from 0, also of the forgeries and the limits
 --seconds T    ends after so many seconds, however many cases are left
 --with mixed   the program has the command `mixed` too
 --keep FOLDER  keeps the input of each difference there, once with as few lines as show it
@@ -12,9 +13,9 @@ fuzz.py [--count N] [--seed S] [--seconds T] [--with mixed] [--keep FOLDER] [--f
 --limits       in place of cases: inputs at each limit of the language and the matrix, and next to it
 
 Cases are made, answered and forgotten one by one. A case that plain.py can't answer within its bound on steps is counted as too
-slow and not compared. The status is 1 where there is a difference.
+slow and not compared. The status is 1 where there is a difference. Where the time ended the next case is B of another call.
 """
-import argparse, collections, pathlib, random, re, shlex, subprocess, sys, time
+import argparse, collections, itertools, pathlib, random, re, resource, shlex, subprocess, sys, time
 
 from plain import answer
 from plain_source import Steps, TooSlow
@@ -95,29 +96,52 @@ class Comparison:
 
     def summary(self):
         count = lambda counter: ", ".join(f"{name} {n}" for name, n in sorted(counter.items(), key=str))
-        print(f"{sum(self.asked.values())} cases, {self.slow} too slow, {self.differences} differences")
+        print(f"{sum(self.asked.values())} compared, {self.slow} too slow, {self.differences} differences")
         print(f"commands: {count(self.asked)}\nstatuses: {count(self.statuses)}\nrefusals: {count(self.refusals)}")
+        print(f"memory: {resource.getrusage(resource.RUSAGE_SELF).ru_maxrss // 1024} MiB")
         return 1 if self.differences else 0
 
 
-def run_cases(comparison, seed, count, seconds):
+def made(seed, later):
+    """The cases of a seed, without an end."""
     from fuzz_make import case
-    end = time.monotonic() + seconds
-    for place in range(count):
+    for place in itertools.count():
+        yield f"seed {seed} case {place}", lambda place=place: case(random.Random(f"{seed} {place}"), later)
+
+
+def forged():
+    from fuzz_forge import forgeries
+    for name, data in forgeries():
+        yield name, lambda data=data: (["check"], data)
+
+
+def at_limits():
+    from fuzz_limits import limits
+    for name, words, data in limits():
+        yield name, lambda words=words, data=data: (words, data)
+
+
+def run_cases(comparison, cases, seconds):
+    """Compares the cases one by one until they or the time have ended. Gives how many they were."""
+    end, count = time.monotonic() + seconds, 0
+    for name, make in cases:
         if time.monotonic() > end:
             break
+        count += 1
         try:
-            words, data = case(random.Random(f"{seed} {place}"), comparison.later)
+            words, data = make()
         except TooSlow:
             comparison.slow += 1
             continue
-        comparison.compare(f"seed {seed} case {place}", words, data)
+        comparison.compare(name, words, data)
+    return count
 
 
 def main():
     parser = argparse.ArgumentParser(allow_abbrev=False, usage=__doc__)
     parser.add_argument("--count", type=int, default=1000)
     parser.add_argument("--seed", type=int, default=1)
+    parser.add_argument("--begin", type=int, default=0)
     parser.add_argument("--seconds", type=float, default=float("inf"))
     parser.add_argument("--with", dest="later", action="append", default=[])
     parser.add_argument("--keep", type=pathlib.Path)
@@ -126,17 +150,13 @@ def main():
     parser.add_argument("program", nargs="+")
     chosen = parser.parse_args()
     comparison = Comparison(chosen.program, tuple(chosen.later), chosen.keep)
-    if chosen.forgeries:
-        from fuzz_forge import forgeries
-        for name, data in forgeries():
-            comparison.compare(name, ["check"], data)
-    elif chosen.limits:
-        from fuzz_limits import STEPS_AT_LIMITS, limits
+    cases = forged() if chosen.forgeries else at_limits() if chosen.limits else made(chosen.seed, comparison.later)
+    last = None if chosen.forgeries or chosen.limits else chosen.begin + chosen.count
+    if chosen.limits:
+        from fuzz_limits import STEPS_AT_LIMITS
         comparison.steps = STEPS_AT_LIMITS
-        for name, words, data in limits():
-            comparison.compare(name, words, data)
-    else:
-        run_cases(comparison, chosen.seed, chosen.count, chosen.seconds)
+    count = run_cases(comparison, itertools.islice(cases, chosen.begin, last), chosen.seconds)
+    print(f"cases {chosen.begin} to {chosen.begin + count - 1}")
     sys.exit(comparison.summary())
 
 

@@ -27,6 +27,11 @@ LINES = ["", " ", "\t\r", "#", "# comment", "branch 0", "branch 1", "over 0", "u
          "version 2", "require 0 1", "forbid 0 1", "k 2", "lambda 1", "fixed 1", "group 2", "mult 1", "shift all", "subgroup M"]
 WORDS = ("show table verify orbits matrix solve resume check workload help --help --version --budget --log --blocks --json --table -- "
          "0 1 2 20 21 007 x -1 1000000000000000 1000000000000001 18446744073709551616").split() + [""]
+# problems whose searches have designs, for where a made source has no search
+PROBLEMS = ["group 7 / k 3 / lambda 1", "group 8 / fixed 1 / k 3 / lambda 1", "group 7 / mult 6 / k 3 / lambda 3", "group 9 / k 3 / lambda 1",
+            "group 3 3 / k 3 / lambda 1", "group 13 / k 4 / lambda 1", "version 2 / group 6 / k 2 3 / lambda 1",
+            "version 2 / group 6 / k 2 3 / lambda 1 / require 0 2 4", "group 7 / k 3 / lambda 2", "group 6 / shift none / k 3 / lambda 2",
+            "group 8 / subgroup N 4 / k 3 / lambda 1 / inside N 0", "group 5 / fixed 2 / k 3 / lambda 2 / hole 0"]
 
 
 # Sources
@@ -246,9 +251,10 @@ def entry_text(entry):
     return " ".join(map(str, entry))
 
 
-def own_log(rng, problem, most=150):
+def own_log(rng, problem):
     """The lines of a log whose columns come in any order, or of the beginning of one."""
     log = Log(MATRICES.of(problem, Steps(300000)), Steps(300000))
+    most = 150 if len(log.matrix.columns) < 24 else 12
     lines = []
     while not log.is_whole() and len(lines) < most:
         if log.design is not None:
@@ -271,9 +277,7 @@ def cut_log(rng, source_lines, log):
     head = [f"source {len(source_lines)}"] + source_lines
     while True:
         count = rng.randint(0, len(log)) if rng.random() < 0.3 else len(log)
-        length = rng.randint(0, 5)
-        columns = [str(c) for c in range(length) if rng.random() < 0.4]
-        following = " ".join([str(length), *columns])
+        following = path_anywhere(rng)
         counts = f"designs {rng.choice([0, 1, 7])} nodes {rng.choice([0, 1, 7])}"
         end = f"end finished {counts}" if count == len(log) else f"end spent {counts} next {following}"
         texts.append(joined(["dossier 2"] + head + ["from " + path] + log[:count] + [end]))
@@ -292,9 +296,16 @@ def texts_of_own_log(rng, lines):
     return cut_log(rng, canonical(problem, Steps()) if rng.random() < 0.5 else lines, log)
 
 
+def path_anywhere(rng, most=5):
+    """The text of a path that some searches have and others don't."""
+    length = rng.randint(0, most)
+    return " ".join(str(n) for n in [length] + [c for c in range(length) if rng.random() < 0.3])
+
+
 def log_case(rng, lines):
     """A command that reads dossiers, and a chain for it."""
     texts = texts_of_own_log(rng, lines) if rng.random() < 0.4 else texts_of_runs(rng, lines)
+    texts = texts or texts_of_runs(rng, rng.choice(PROBLEMS).split(" / "))
     command = rng.choice(["check", "check", "check", "resume"])
     if command == "resume" and texts:
         texts = [rng.choice(texts)]
@@ -303,8 +314,11 @@ def log_case(rng, lines):
     if rng.random() < 0.05:
         texts = texts + texts[:1]
     lines = b"".join(texts).decode("latin-1").split("\n")[:-1]
-    if rng.random() < 0.6:
-        lines = spoiled(rng, lines)
+    if command == "resume" and rng.random() < 0.4:
+        lines = lines[:-1] + [f"end spent designs 0 nodes 1 next {path_anywhere(rng)}"]
+    elif rng.random() < 0.6:
+        begin = next((place for place, line in enumerate(lines) if line.startswith("from ")), 0) if rng.random() < 0.85 else 0
+        lines = lines[:begin] + spoiled(rng, lines[begin:])
     return [command] + (options(rng, command) if command == "resume" else []), bytes_of(rng, lines)
 
 

@@ -2,7 +2,7 @@
 
 Part of plain.py.
 """
-import itertools, math
+import collections, itertools, math
 
 MOST_SUBSETS = 2000000
 MOST_SUMMED = 8000000
@@ -85,25 +85,22 @@ class Matrix:
         self.orbits = orbits_of(self.candidates, maps, steps)
         self.needed = [b for b, images in self.orbits if images.intersection(problem.required)]
         self.targets = [problem.target(*pair) for pair in self.pairs] + [1] * len(self.needed)
-        self.entries = [self.entries_of(b, images, steps) for b, images in self.orbits]
+        self.steps = steps
         self.kept = [place for place in range(len(self.orbits)) if self.is_kept(place)]
         self.judge_limits()
-        self.columns = [self.entries[place] for place in self.kept]
+        self.columns = [self.entries(place) for place in self.kept]
         self.representatives = [self.orbits[place][0] for place in self.kept]
 
-    def entries_of(self, block, images, steps):
+    def entries(self, place):
         """The number of blocks of an orbit that hold the pair of each row, and whether it is the required orbit of a row."""
-        steps.take(len(images) * math.comb(len(block), 2) + len(self.targets))
-        covers = {}
-        for b in images:
-            for pair in itertools.combinations(b, 2):
-                covers[pair] = covers.get(pair, 0) + 1
-        return [covers.get(pair, 0) for pair in self.pairs] + [int(b == block) for b in self.needed]
+        block, images = self.orbits[place]
+        self.steps.take(len(images) * math.comb(len(block), 2) + len(self.targets))
+        covers = collections.Counter(pair for b in images for pair in itertools.combinations(b, 2))
+        return [covers[pair] for pair in self.pairs] + [int(b == block) for b in self.needed]
 
     def is_kept(self, place):
-        _, images = self.orbits[place]
-        below = all(e <= t for e, t in zip(self.entries[place], self.targets))
-        return below and not images.intersection(self.problem.forbidden)
+        below = all(e <= t for e, t in zip(self.entries(place), self.targets))
+        return below and not self.orbits[place][1].intersection(self.problem.forbidden)
 
     def judge_limits(self):
         columns, rows = len(self.kept), len(self.targets)
@@ -126,6 +123,6 @@ class Matrix:
         numbers = {place: column for column, place in enumerate(self.kept)}
         for place, (block, _) in enumerate(self.orbits):
             end = f"column {numbers[place]}" if place in numbers else "dropped"
-            entries = " ".join(map(str, self.entries[place]))
+            entries = " ".join(map(str, self.entries(place)))
             lines.append(f"orbit {text(block)} entries {entries} {end}")
         return lines
