@@ -1,4 +1,5 @@
 pub mod FaultTexts
 pub mod Listings
 pub mod LogFaultTexts
+pub mod PairTexts
 pub mod TableTexts
