@@ -1,7 +1,7 @@
 // A disk that fails: a fault at each read in turn, of runs of each command. The input is read to its end before the first byte is written, and
 // no read follows the one that failed.
 use super::*;
-use crate::hostile_runs::{CHECKS, LATER, SEARCHES, SOURCES, Told, UNREAD};
+use crate::hostile_runs::{CHECKS, FINISHED, LATER, LISTINGS, SOURCES, STOPPED, Told, UNREAD};
 use crate::tests::run_over;
 use std::process::Abort;
 use std::test::Fail;
@@ -82,8 +82,11 @@ fn sources_fail_at_each_read(rt: HostRuntime) -> Result<(), Fail> {
 
 #[test]
 fn searches_fail_at_each_read(rt: HostRuntime) -> Result<(), Fail> {
-    assert_read_faults(&rt, SEARCHES, 1)?;
-    assert_read_faults(&rt, SEARCHES, 16)
+    for runs in [FINISHED, STOPPED, LISTINGS] {
+        assert_read_faults(&rt, runs, 1)?;
+        assert_read_faults(&rt, runs, 16)?;
+    }
+    Ok(())
 }
 
 // Also after a line that is refused.

@@ -110,8 +110,8 @@ pub(crate) const SOURCES: &[Told<'static>] = &[
     ),
 ];
 
-// Searches that begin: finished and spent, with a log, with all blocks, as a listing; and refused.
-pub(crate) const SEARCHES: &[Told<'static>] = &[
+// Searches that finish: with a log and without, with designs and without, and one whose first path is given up.
+pub(crate) const FINISHED: &[Told<'static>] = &[
     (
         &["solve"],
         SEVEN,
@@ -131,6 +131,16 @@ pub(crate) const SEARCHES: &[Told<'static>] = &[
         "dossier 2\nsource 6\ngroup 8\nfixed 1\nshift all\nk 3\nlambda 1\nhole 1\nfrom 0\nbranch 0\nbranch 1\nover 0\nbranch 2\nsettled\ndesign 0 1 3 ; 0 4 inf1\nunder 3\nbranch 1\nbranch 2\nsettled\ndesign 0 1 6 ; 0 4 inf1\nunder 3\nunder 0\nend finished designs 2 nodes 7\n",
     ),
     (
+        &["solve", "--log"],
+        "group 5\nmult 4\nk 3\nlambda 1\n",
+        0,
+        "dossier 2\nsource 7\ngroup 5\nfixed 0\nshift all\nmult 4\nk 3\nlambda 1\nhole 1\nfrom 0\nunder 0\nend finished designs 0 nodes 0\n",
+    ),
+];
+
+// Searches whose budget is spent, and sources that are refused.
+pub(crate) const STOPPED: &[Told<'static>] = &[
+    (
         &["solve", "--log", "--blocks", "--budget", "3"],
         SEVEN,
         7,
@@ -141,12 +151,6 @@ pub(crate) const SEARCHES: &[Told<'static>] = &[
         SEVEN,
         7,
         "dossier 2\nsource 6\ngroup 7\nfixed 0\nshift all\nk 3\nlambda 1\nhole 1\nfrom 0\nend spent designs 0 nodes 1 next 1 0\n",
-    ),
-    (
-        &["solve", "--log"],
-        "group 13\nmult 12\nk 4\nlambda 1\n",
-        0,
-        "dossier 2\nsource 7\ngroup 13\nfixed 0\nshift all\nmult 12\nk 4\nlambda 1\nhole 1\nfrom 0\nunder 0\nend finished designs 0 nodes 0\n",
     ),
     (
         &["solve"],
@@ -160,6 +164,10 @@ pub(crate) const SEARCHES: &[Told<'static>] = &[
         3,
         "source refused line 2 SizeRange\n",
     ),
+];
+
+// Searches that are told as listings.
+pub(crate) const LISTINGS: &[Told<'static>] = &[
     (
         &["solve", "--json"],
         SEVEN,
@@ -282,12 +290,6 @@ pub(crate) const UNREAD: &[Told<'static>] = &[
         PLANE,
         0,
         "workload 1 points 11 columns 15 designs 1 nodes 16\n",
-    ),
-    (
-        &["workload", "2"],
-        PLANE,
-        0,
-        "workload 2 points 17 columns 40 designs 1 nodes 41\n",
     ),
     (&[], PLANE, 2, "usage word 1\n"),
     (&["verify", "x"], PLANE, 2, "usage word 2\n"),

@@ -1,7 +1,7 @@
 // A pipe that closes: each room of the sink in turn, and a fault at each write in turn, of runs of each command. What was written is a proper
 // prefix of the text, and no write follows the one that failed.
 use super::*;
-use crate::hostile_runs::{CHECKS, LATER, SEARCHES, SOURCES, Told, UNREAD};
+use crate::hostile_runs::{CHECKS, FINISHED, LATER, LISTINGS, SOURCES, STOPPED, Told, UNREAD};
 use crate::tests::run_over;
 use arrayvec::ArrayVec;
 use df_io::{MemSink, MemSource};
@@ -54,8 +54,18 @@ fn sources_are_answered_into_each_room(rt: HostRuntime) -> Result<(), Fail> {
 }
 
 #[test]
-fn searches_are_told_into_each_room(rt: HostRuntime) -> Result<(), Fail> {
-    assert_rooms(&rt, SEARCHES)
+fn finished_searches_are_told_into_each_room(rt: HostRuntime) -> Result<(), Fail> {
+    assert_rooms(&rt, FINISHED)
+}
+
+#[test]
+fn stopped_searches_are_told_into_each_room(rt: HostRuntime) -> Result<(), Fail> {
+    assert_rooms(&rt, STOPPED)
+}
+
+#[test]
+fn listings_are_told_into_each_room(rt: HostRuntime) -> Result<(), Fail> {
+    assert_rooms(&rt, LISTINGS)
 }
 
 #[test]
@@ -118,7 +128,7 @@ fn assert_write_faults(rt: &(impl Abort + AllocGlobal), told: &Told<'_>) -> Resu
 
 #[test]
 fn sinks_fail_at_each_write(rt: HostRuntime) -> Result<(), Fail> {
-    for runs in [SOURCES, SEARCHES, LATER, CHECKS, UNREAD] {
+    for runs in [SOURCES, FINISHED, STOPPED, LISTINGS, LATER, CHECKS, UNREAD] {
         for told in runs {
             assert_write_faults(&rt, told)?;
         }
