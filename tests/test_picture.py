@@ -103,7 +103,7 @@ class Circle(unittest.TestCase):
         self.assertEqual(places, [[(130, 40), (220, 130)], [(130, 40), (130, 220)]])
 
     def test_fixed_points_and_dossiers(self):
-        text = dossiers.answer_of(["solve"], "group 8\nfixed 1\nmult 7\nk 3\nlambda 3\n")
+        text = dossiers.answer_of(["solve"], "group 8\nfixed 1\nmult 5\nk 3\nlambda 3\n")
         designs = [line.split(maxsplit=1)[1] for line in text.split("\n") if line.startswith("design")]
         self.assertEqual(len(designs), 4)
         for number, design in enumerate(designs, 1):
