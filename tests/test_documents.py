@@ -58,11 +58,12 @@ def make_launcher(folder):
     launcher.chmod(0o755)
 
 
-def written_by(command, folder):
+def run(command, folder, status):
+    """The status and the text of a command; it is given the status of the command before it as '$?'."""
     environment = dict(os.environ, WAKHTSIME_PROGRAM=os.path.abspath(dossiers.program_path()), LC_ALL="C")
-    call = subprocess.run(["sh", "-c", command], cwd=folder, env=environment, stdin=subprocess.DEVNULL, stdout=subprocess.PIPE,
+    call = subprocess.run(["sh", "-c", f"(exit {status})\n{command}"], cwd=folder, env=environment, stdin=subprocess.DEVNULL, stdout=subprocess.PIPE,
                           stderr=subprocess.STDOUT, text=True, check=False)
-    return call.stdout
+    return call.returncode, call.stdout
 
 
 class Documents(unittest.TestCase):
@@ -72,9 +73,11 @@ class Documents(unittest.TestCase):
         make_launcher(folder)
         steps = steps_of((ROOT / "docs" / name).read_text())
         self.assertGreater(len(steps), 10)
+        status = 0
         for step in steps:
             with self.subTest(document=name, line=step.line):
-                self.assertEqual(written_by(step.command, folder), step.wanted)
+                status, written = run(step.command, folder, status)
+                self.assertEqual(written, step.wanted)
 
     def test_tutorial(self):
         self.run_document("TUTORIAL.md")
