@@ -173,6 +173,12 @@ def problem_of(canonical):
     return Problem(lines, factors, fixed, subgroups[shift], products(math.lcm(*factors), multipliers), tuple(base_blocks))
 
 
+@functools.lru_cache(maxsize=None)
+def problem_of_source(lines):
+    """The problem of a dossier's source lines; the dossiers of a chain have one source, for which the program is called once."""
+    return problem_of(answer_of(["show"], "\n".join(lines) + "\n"))
+
+
 # Designs
 
 @functools.lru_cache(maxsize=None)
@@ -201,7 +207,7 @@ def design_of_family(text):
 def designs_of_dossiers(text):
     """The designs of a dossier, or of a chain of dossiers."""
     for dossier in dossiers_of(text):
-        problem = problem_of(answer_of(["show"], "\n".join(dossier.source) + "\n"))
+        problem = problem_of_source(dossier.source)
         for base_blocks in dossier.designs:
             yield Design(problem, tuple(sorted(image for names in base_blocks for image in developed(problem, names))))
 

@@ -95,7 +95,7 @@ def base_blocks_of(text, number):
         return problem, [names for _, names in problem.base_blocks]
     blocks_of_all = ((dossier.source, names) for dossier in dossiers.dossiers_of(text) for names in dossier.designs)
     source, names = nth(blocks_of_all, number)
-    return dossiers.problem_of(dossiers.answer_of(["show"], "\n".join(source) + "\n")), list(names)
+    return dossiers.problem_of_source(source), list(names)
 
 
 def elements_and_fixed(block):

@@ -229,14 +229,18 @@ def die_with_parent():
         ctypes.CDLL(None).prctl(DIES_WITH_ITS_PARENT, signal.SIGKILL)
 
 
+def started(words, **streams):
+    """The program at work, in a session of its own: the interrupt key reaches this tool alone, which then ends the program."""
+    return subprocess.Popen([dossiers.program_path(), *words], start_new_session=True, preexec_fn=die_with_parent, **streams)
+
+
 def run_slice(folder, settings, number):
     """Runs the program once and keeps its dossier."""
     word, place = ("solve", folder / "source.df") if number == 1 else ("resume", slice_place(folder, number - 1))
 
     def fill(file):
         with open(place, "rb") as text:
-            program = subprocess.Popen([dossiers.program_path(), word, *settings.words], stdin=text, stdout=file,
-                                       preexec_fn=die_with_parent)
+            program = started([word, *settings.words], stdin=text, stdout=file)
         try:
             status = program.wait()
         except BaseException:
@@ -310,8 +314,7 @@ def run_slices(folder, settings, ends, most):
 
 def check(folder, count):
     """What 'check' answers of all slices, one after another: its status and its text."""
-    program = subprocess.Popen([dossiers.program_path(), "check"], stdin=subprocess.PIPE, stdout=subprocess.PIPE,
-                               preexec_fn=die_with_parent)
+    program = started(["check"], stdin=subprocess.PIPE, stdout=subprocess.PIPE)
     try:
         for number in range(1, count + 1):
             with open(slice_place(folder, number), "rb") as text:
