@@ -279,7 +279,7 @@ def section(crate, calls):
         clauses = ", ".join(clause_name(c) for c in call.clauses if c[0] == "ensures")
         lines.append(f"| {owner}`{call.signature}` | {memory(call)} | {clauses} | {after(call)[0]} |".replace("||", r"\|\|"))
     if laws:
-        lines += [""] * bool(calls) + ["Laws: " + ", ".join(f"`{c.name}`" for c in laws) + "."]
+        lines += [""] * bool(calls) + ["Laws: " + ", ".join(f"`{c.full_name}`" for c in laws) + "."]
     return lines + [""]
 
 
