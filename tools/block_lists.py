@@ -51,7 +51,10 @@ WORDS = set(
     " starter the with".split()
 )
 NAMES = r"^[ \t,]*[A-Za-z]\w*(?:_?\{?\d*\}?)[ \t]*(?::=|=|:)"
-TOKENS = re.compile(r"(?P<blank>[ \t\r\f\v]+)|(?P<line>\n)|(?P<point>-?\d+(?:,-?\d+)*|\u221e(?:_?\{\d+\}|_?\d+)?)|(?P<mark>[][(){}<>,;:.])|(?P<bad>\S[^\s,;)\]}]*)")
+TOKENS = re.compile(
+    r"(?P<blank>[ \t\r\f\v]+)|(?P<line>\n)|(?P<point>-?\d+(?:,-?\d+)*|\u221e(?:_?\{\d+\}|_?\d+)?)"
+    r"|(?P<mark>[][(){}<>,;:.])|(?P<bad>\S[^\s,;)\]}]*)"
+)
 
 
 @dataclass
@@ -138,7 +141,8 @@ def take_group(found: BlockList, text: str) -> str:
         for match in list(re.finditer(pattern, text)):
             factors = read_factors(match)
             if found.group not in (None, factors):
-                raise Unreadable(line_at(text, match), f"'{match.group().strip()}' is another group than before: import one family at a time")
+                reason = f"'{match.group().strip()}' is another group than before: import one family at a time"
+                raise Unreadable(line_at(text, match), reason)
             found.group = factors
         text = re.sub(pattern, " ", text)
     return text

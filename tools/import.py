@@ -229,7 +229,8 @@ def find_family(found: BlockList, options: Options, notes: list[str]) -> Family:
 
 def check_group(factors: Numbers) -> None:
     if not (1 <= len(factors) <= MOST_FACTORS and min(factors) >= 2 and prod(factors) <= MOST_POINTS):
-        raise ToolError(f"the group {' '.join(map(str, factors))} isn't one of the program's: 1 to {MOST_FACTORS} factors from 2 on, with a product of at most {MOST_POINTS}")
+        limits = f"1 to {MOST_FACTORS} factors from 2 on, with a product of at most {MOST_POINTS}"
+        raise ToolError(f"the group {' '.join(map(str, factors))} isn't one of the program's: {limits}")
 
 
 def find_target(family: Family, found: BlockList, options: Options, notes: list[str]) -> int:
@@ -245,7 +246,7 @@ def find_target(family: Family, found: BlockList, options: Options, notes: list[
     target = counted_target(family)
     if target is None:
         raise ToolError("not every difference comes as often, and no lambda fits the number of blocks: give --lambda")
-    notes.append(f"lambda {target}: guessed by the number of blocks; but some differences come more often than others, as 'explain' shows")
+    notes.append(f"lambda {target}: guessed by the number of blocks; but not every difference comes as often, as 'explain' shows")
     return target
 
 
@@ -260,7 +261,8 @@ def note_short(family: Family, notes: list[str]) -> None:
     for number, block in enumerate(family.blocks, 1):
         kept = len(block.stabilizer(family.group))
         if kept > 1:
-            notes.append(f"block {number} ({block}) is short: {kept} translations keep it, so it counts for {order // kept} blocks and not for {order}")
+            counted = f"it counts for {order // kept} blocks and not for {order}"
+            notes.append(f"block {number} ({block}) is short: {kept} translations keep it, so {counted}")
 
 
 def source_lines(family: Family) -> Iterator[str]:

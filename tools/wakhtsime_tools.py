@@ -6,6 +6,7 @@ import subprocess
 import sys
 from collections import Counter
 from dataclasses import dataclass, field
+from functools import lru_cache
 from itertools import product
 from math import prod
 from pathlib import Path
@@ -55,9 +56,6 @@ class Group:
     def subtract(self, one: Element, other: Element) -> Element:
         return tuple((a - b) % n for a, b, n in zip(one, other, self.factors))
 
-    def translate(self, point: Point, shift: Element) -> Point:
-        return point if is_fixed(point) else self.add(point, shift)
-
     def generated(self, generators: list[Element]) -> frozenset[Element]:
         """The subgroup that some elements generate."""
         members, new = {self.zero}, [self.zero]
@@ -106,10 +104,15 @@ class Block:
     def fixed(self) -> list[int]:
         return sorted(point for point in self.points if is_fixed(point))
 
-    def stabilizer(self, group: Group) -> list[Element]:
+    @lru_cache(maxsize=None)
+    def stabilizer(self, group: Group) -> tuple[Element, ...]:
         """The translations that map the block to itself, 0 among them."""
-        points = set(self.points)
-        return [h for h in group.elements() if {group.translate(p, h) for p in points} == points]
+        elements = set(self.elements())
+        if not elements:
+            return tuple(group.elements())
+        first = next(iter(elements))
+        shifts = sorted(group.subtract(element, first) for element in elements)
+        return tuple(h for h in shifts if all(group.add(element, h) in elements for element in elements))
 
     def translates(self, group: Group) -> int:
         """How many blocks it is developed into."""
