@@ -22,7 +22,7 @@ import dossiers  # noqa: E402
 DOCUMENTS = ["TUTORIAL.md", "TABLES.md"]
 LAUNCHER = """#!/bin/sh
 case $1 in
-    convert | picture | search) tool=$1; shift; exec {python} {tools}/"$tool".py "$@" ;;
+    import | explain | convert | picture | search) tool=$1; shift; exec {python} {tools}/"$tool".py "$@" ;;
     *) exec {program} "$@" ;;
 esac
 """
@@ -61,8 +61,8 @@ def make_launcher(folder):
 def run(command, folder, status):
     """The status and the text of a command; it is given the status of the command before it as '$?'."""
     environment = dict(os.environ, WAKHTSIME_PROGRAM=os.path.abspath(dossiers.program_path()), LC_ALL="C")
-    call = subprocess.run(["sh", "-c", f"(exit {status})\n{command}"], cwd=folder, env=environment, stdin=subprocess.DEVNULL, stdout=subprocess.PIPE,
-                          stderr=subprocess.STDOUT, text=True, check=False)
+    call = subprocess.run(["sh", "-c", f"(exit {status})\n{command}"], cwd=folder, env=environment, stdin=subprocess.DEVNULL,
+                          stdout=subprocess.PIPE, stderr=subprocess.STDOUT, text=True, check=False)
     return call.returncode, call.stdout
 
 
