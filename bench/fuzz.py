@@ -22,6 +22,7 @@ from plain_source import Steps, TooSlow
 from plain_words import COMMANDS
 
 STEPS = 400000
+MANY_STEPS = 400000000
 SECONDS = 60
 
 
@@ -152,9 +153,8 @@ def main():
     comparison = Comparison(chosen.program, tuple(chosen.later), chosen.keep)
     cases = forged() if chosen.forgeries else at_limits() if chosen.limits else made(chosen.seed, comparison.later)
     last = None if chosen.forgeries or chosen.limits else chosen.begin + chosen.count
-    if chosen.limits:
-        from fuzz_limits import STEPS_AT_LIMITS
-        comparison.steps = STEPS_AT_LIMITS
+    if chosen.limits or chosen.forgeries:
+        comparison.steps = MANY_STEPS
     count = run_cases(comparison, itertools.islice(cases, chosen.begin, last), chosen.seconds)
     print(f"cases {chosen.begin} to {chosen.begin + count - 1}")
     sys.exit(comparison.summary())

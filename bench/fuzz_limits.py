@@ -1,7 +1,6 @@
 """Inputs at each limit of the words, of sources, of dossiers and of the matrix, and next to it, for bench/fuzz.py."""
 from fuzz_make import joined
 
-STEPS_AT_LIMITS = 400000000
 MOST_SOURCE = 1 << 20
 NUMBERS = (0, 1, 2, 15, 16, 17, 127, 128, 129, 1000, 1001, 2000000, 2000001, (1 << 32) - 1, 1 << 32, (1 << 64) - 1, 1 << 64)
 PLANE = ["group 7", "k 3", "lambda 1"]
