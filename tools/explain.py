@@ -14,7 +14,7 @@ import sys
 from collections import Counter
 from dataclasses import dataclass, replace
 from itertools import combinations
-from typing import Iterator
+from typing import Iterable, Iterator
 
 from source_faults import fault_lines
 from wakhtsime_tools import (
@@ -304,6 +304,13 @@ def explain_family(text: str) -> Iterator[str]:
         yield "The source has no 'base' and no 'short' line. './wakhtsime solve' looks for families."
 
 
+def write_lines(lines: Iterable[str]) -> None:
+    """Writes lines, with the bytes of the source as they are."""
+    for line in lines:
+        sys.stdout.buffer.write(f"{line}\n".encode("latin-1"))
+    sys.stdout.buffer.flush()
+
+
 def main(words: list[str]) -> int:
     if print_help(words, __doc__):
         return 0
@@ -312,13 +319,12 @@ def main(words: list[str]) -> int:
     text = read_input(NAME, "a source").decode("latin-1")
     status, answer = run_program(["verify"], text)
     if status == 0:
-        print(f"The family is accepted, and has {answer.split()[1]} blocks.")
+        write_lines([f"The family is accepted, and has {answer.split()[1]} blocks."])
     elif status == REFUSED:
-        for line in explain_family(text):
-            print(line)
+        write_lines(explain_family(text))
     elif status == BAD_INPUT and answer.startswith("source refused line "):
         number, fault = answer.split(maxsplit=4)[3:]
-        print("\n".join(fault_lines(text, int(number), fault.strip())))
+        write_lines(fault_lines(text, int(number), fault.strip()))
     else:
         raise ToolError(f"the program ended with status {status}: docs/FORMATS.md says why", status)
     return status
