@@ -58,7 +58,7 @@ const RESIDUE: &[&str] = &[
 ];
 
 // Lines as a text, each with its end.
-pub(crate) fn text_of(alloc: Global, lines: &[&str]) -> Result<String, AllocError> {
+fn text_of(alloc: Global, lines: &[&str]) -> Result<String, AllocError> {
     let mut text = String::new(alloc);
     for line in lines {
         text.push_str(line)?;
@@ -68,7 +68,7 @@ pub(crate) fn text_of(alloc: Global, lines: &[&str]) -> Result<String, AllocErro
 }
 
 // Lines as a text, with others in place of the one of this number, from 1.
-pub(crate) fn edited(
+fn edited(
     alloc: Global,
     lines: &[&str],
     number: usize,
