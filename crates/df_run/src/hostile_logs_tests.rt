@@ -43,7 +43,10 @@ fn beginning(code: u8) -> &'static str {
 
 // An answer of `check`, without what begins it and its line feed, as a whole text.
 pub(crate) fn answer_of(alloc: Global, code: u8, rest: &str) -> Result<String, AllocError> {
-    joined(alloc, &[beginning(code), rest, "\n"])
+    let mut text = String::from_str(alloc, beginning(code))?;
+    text.push_str(rest)?;
+    text.push_str("\n")?;
+    Ok(text)
 }
 
 // Runs `check` over lines with others in place of the one of each number.

@@ -13,7 +13,9 @@ use std::test::Fail;
 fn assert_room(rt: &(impl Abort + AllocGlobal), told: &Told<'_>, room: usize) -> Result<(), Fail> {
     let (words, input, _, wanted) = told;
     let (status, source, sink) = run_over(rt.alloc(), words, input.as_bytes(), 64, 0, room)?;
-    let prefix = &wanted.as_bytes()[..room];
+    let text = wanted.as_bytes();
+    assert!(rt; room < text.len());
+    let prefix = &text[..room];
     assert_eq!(rt; status.code(), 5, "at room {room} of {wanted}");
     assert_eq!(rt; sink.bytes.as_slice(), prefix, "at room {room}");
     assert_eq!(rt; sink.faults, 1, "at room {room} of {wanted}");
@@ -43,7 +45,7 @@ fn assert_rooms(rt: &(impl Abort + AllocGlobal), runs: &[Told<'_>]) -> Result<()
             assert_room(rt, told, room)?;
         }
         assert_written(rt, told, size)?;
-        assert_written(rt, told, size + 1)?;
+        assert_written(rt, told, size.saturating_add(1))?;
     }
     Ok(())
 }
@@ -106,22 +108,29 @@ fn run_into(
 // Runs with a fault at each write in turn, up to the first run without one; each gets further than the one before.
 fn assert_write_faults(rt: &(impl Abort + AllocGlobal), told: &Told<'_>) -> Result<(), Fail> {
     let (words, input, code, wanted) = told;
+    let text = wanted.as_bytes();
     let (_, whole) = run_into(rt.alloc(), words, input.as_bytes(), 0)?;
     let writes = whole.calls;
     let mut before = 0usize;
-    for failing in 1..writes + 1 {
+    for passed in 0..writes {
+        let failing = passed + 1;
         let (status, sink) = run_into(rt.alloc(), words, input.as_bytes(), failing)?;
         let size = sink.bytes.len();
         assert_eq!(rt; status.code(), 5, "at write {failing} of {wanted}");
-        assert!(rt; size < wanted.len(), "at write {failing} of {wanted}");
-        assert_eq!(rt; sink.bytes.as_slice(), &wanted.as_bytes()[..size]);
+        assert!(rt; size < text.len(), "at write {failing} of {wanted}");
+        assert_eq!(rt; sink.bytes.as_slice(), &text[..size]);
         assert_eq!(rt; sink.calls, failing);
         assert!(rt; failing == 1 && size == 0 || size > before);
         before = size;
     }
-    let (status, sink) = run_into(rt.alloc(), words, input.as_bytes(), writes + 1)?;
+    let (status, sink) = run_into(
+        rt.alloc(),
+        words,
+        input.as_bytes(),
+        writes.saturating_add(1),
+    )?;
     assert_eq!(rt; status.code(), *code, "not {wanted}");
-    assert_eq!(rt; sink.bytes.as_slice(), wanted.as_bytes());
+    assert_eq!(rt; sink.bytes.as_slice(), text);
     assert_eq!(rt; sink.faults, 0);
     Ok(())
 }
