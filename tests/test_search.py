@@ -62,7 +62,14 @@ class SearchTest(unittest.TestCase):
         return [path.read_text() for path in sorted(self.folder.glob("slice_*.dossier"))]
 
     def remains(self):
-        return [path.name for path in self.folder.iterdir() if path.name.startswith(search.TEMPORARY)]
+        return [path.name for path in self.folder.glob(search.TEMPORARY + "*")]
+
+    def wait_for_another_file(self, before):
+        for _ in range(6000):
+            if set(self.remains()) - set(before):
+                return
+            time.sleep(0.01)
+        self.fail("no slice is begun")
 
 
 class Stops(SearchTest):
@@ -76,12 +83,15 @@ class Stops(SearchTest):
         half_written = 0
         for count in range(KILLS):
             source = TRIPLES_19 if not (self.folder / "settings").exists() else ""
+            before = self.remains()
             with self.subTest(count=count), open(self.place / "told", "w") as told:
                 process = subprocess.Popen(self.command(self.folder, *(["--budget", 10, "--log"] if source else [])),
                                            stdin=subprocess.PIPE, stdout=told, stderr=told, env=self.environment)
                 process.stdin.write(source.encode())
                 process.stdin.close()
-                time.sleep(random.uniform(0.05, 0.5))
+                if count % 2:  # a slice is at work; at the other times the search may still be at its start
+                    self.wait_for_another_file(before)
+                time.sleep(random.uniform(0.0, 0.4))
                 process.kill()
                 self.assertEqual(process.wait(), -signal.SIGKILL)
             if self.folder.exists():
