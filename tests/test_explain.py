@@ -83,6 +83,7 @@ SOURCES = [
     ("group 7\nk 3\nlambda 1\nbase 0 1 7\n", "BadElement in line 4", "'7', number 4", "begin with 0 and are below"),
     ("group 7\nk 3\nlambda 1\nbase 0 1 inf\n", "BadElement in line 4", "'inf', number 4", "as inf1"),
     ("group 7\nk 3\nlambda 1\nbase 0 1 inf1\n", "BadElement in line 4", "'inf1', number 4", "state 0 fixed points"),
+    ("group 7\nfixed 1\nk 3\nlambda 1\nbase 0 1 \u221e\n", "BadElement in line 5", "'\u221e', number 4", "as inf1"),
     ("group 5 5\nk 3\nlambda 1\nbase 0 1 3\n", "BadElement in line 4", "'0', number 2", "has 2 factors"),
     ("group 7\nk 3\nlambda 1\nbase [0, 1, 3]\n", "BadElement in line 4", "'[0,', number 2", "wakhtsime import"),
     ("group 7\nk 3\n\nlambda 1 # one\nbase 0 1 01\n", "PointTwice in line 5", "'01', number 4", ""),
@@ -123,7 +124,7 @@ def run(text, *words, program=PROGRAM):
     """The status of the tool, what it writes, and what it says."""
     environment = dict(os.environ, WAKHTSIME_PROGRAM=str(program))
     done = subprocess.run([sys.executable, TOOL, *words], input=text.encode(), capture_output=True, env=environment)
-    return done.returncode, done.stdout.decode("latin-1"), done.stderr.decode()
+    return done.returncode, done.stdout.decode(), done.stderr.decode()
 
 
 class ExplainTest(unittest.TestCase):

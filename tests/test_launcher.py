@@ -161,6 +161,8 @@ class LauncherTest(unittest.TestCase):
         (links / "second").symlink_to("relative")
         (tree.folder / "folder").symlink_to("the tree")
         (tree.folder / "short").symlink_to("folder/wakhtsime")
+        (tree.folder / "a-link").symlink_to("the tree")
+        (tree.folder / "dashed").symlink_to("a-link/wakhtsime")
         (tree.folder / "decoy/the tree").mkdir(parents=True)
         for launcher in (links / "absolute", links / "relative", links / "second", tree.folder / "folder/wakhtsime"):
             self.assert_is_built(tree, launcher=[launcher])
@@ -168,6 +170,7 @@ class LauncherTest(unittest.TestCase):
         self.assert_is_built(tree, launcher=["sh", "wakhtsime"], cwd=tree.root)
         self.assert_is_built(tree, launcher=["sh", "second"], cwd=links)
         self.assert_is_built(tree, launcher=["sh", "short"], cwd=tree.folder)
+        self.assert_is_built(tree, launcher=["sh", "dashed"], cwd=tree.folder)
         with_path = {"PATH": f"{links}:{os.environ['PATH']}"}
         self.assert_is_built(tree, launcher=["/usr/bin/env", "second"], cwd="/", environment=with_path)
         with_paths = {"CDPATH": str(tree.folder / "decoy")}
@@ -287,6 +290,9 @@ class LauncherTest(unittest.TestCase):
             "import os, sys\nprint(sys.argv[1:], os.environ['WAKHTSIME_PROGRAM'])\nsys.exit(5)\n"
         )
         status, written, said = tree.run("convert", "--help")
+        self.assertEqual((status, said), (5, ""))
+        shutil.copy(tree.root / "tools/convert.py", tree.root / "tools/import.py")
+        status, written, said = tree.run("import", "--group", "7")
         self.assertEqual((status, said), (5, ""))
         status, written, said = tree.run("convert", "xml", "two words")
         self.assertEqual((status, written), (5, f"['xml', 'two words'] {tree.root.resolve()}/bin/df_main\n"))
