@@ -44,6 +44,12 @@ def sliced(source, budget, *options):
     return texts
 
 
+def hear_all():
+    """No signal is ignored, also where the tests run behind something that ignores it."""
+    for number in (signal.SIGINT, signal.SIGTERM, signal.SIGHUP):
+        signal.signal(number, signal.SIG_DFL)
+
+
 class SearchTest(unittest.TestCase):
     def setUp(self):
         self.place = Path(tempfile.mkdtemp())
@@ -107,10 +113,12 @@ class Stops(SearchTest):
         self.assertEqual(self.remains(), [])
 
     def test_a_request_to_stop(self):
-        for request in (signal.SIGTERM, signal.SIGINT):
+        wanted = sliced(TRIPLES_19, "20")
+        self.assertGreater(len(wanted), 60)
+        for request in (signal.SIGTERM, signal.SIGINT, signal.SIGHUP):
             folder = self.place / request.name
-            process = subprocess.Popen(self.command(folder, "--budget", 1), stdin=subprocess.PIPE, stdout=subprocess.PIPE,
-                                       stderr=subprocess.PIPE, env=self.environment)
+            process = subprocess.Popen(self.command(folder, "--budget", 20), stdin=subprocess.PIPE, stdout=subprocess.PIPE,
+                                       stderr=subprocess.PIPE, env=self.environment, preexec_fn=hear_all)
             process.stdin.write(TRIPLES_19.encode())
             process.stdin.close()
             process.stdin = None
@@ -120,7 +128,23 @@ class Stops(SearchTest):
             answer, told = process.communicate()
             self.assertEqual((process.returncode, answer), (7, b""))
             self.assertIn(b"stopped; 'search", told)
-            self.assertEqual([path for path in folder.iterdir() if path.name.startswith(search.TEMPORARY)], [])
+            self.folder = folder
+            self.assertEqual(self.remains(), [])
+            self.assertEqual(self.slices(), wanted[:len(self.slices())])
+            self.assertEqual(self.called(folder)[:2], (0, f"finished designs 32 nodes 1365 slices {len(wanted)}\n"))
+            self.assertEqual(self.slices(), wanted)
+
+    def test_a_signal_that_is_ignored(self):
+        process = subprocess.Popen(self.command(self.folder, "--budget", 20), stdin=subprocess.PIPE, stdout=subprocess.PIPE,
+                                   stderr=subprocess.PIPE, env=self.environment,
+                                   preexec_fn=lambda: signal.signal(signal.SIGHUP, signal.SIG_IGN))
+        process.stdin.write(TRIPLES_19.encode())
+        process.stdin.close()
+        process.stdin = None
+        while not search.slice_place(self.folder, 2).exists():
+            time.sleep(0.01)
+        process.send_signal(signal.SIGHUP)
+        self.assertEqual(process.communicate()[0], b"finished designs 32 nodes 1365 slices 69\n")
 
     def test_remains_of_a_kill_are_removed(self):
         self.called(self.folder, "--budget", 2, "--slices", 1, text=PLANES_3)

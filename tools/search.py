@@ -23,6 +23,7 @@ import ctypes
 import fcntl
 import os
 import re
+import shutil
 import signal
 import subprocess
 import sys
@@ -229,24 +230,48 @@ def die_with_parent():
         ctypes.CDLL(None).prctl(DIES_WITH_ITS_PARENT, signal.SIGKILL)
 
 
-def started(words, **streams):
-    """The program at work, in a session of its own: the interrupt key reaches this tool alone, which then ends the program."""
-    return subprocess.Popen([dossiers.program_path(), *words], start_new_session=True, preexec_fn=die_with_parent, **streams)
+@dataclass
+class Runner:
+    """Calls the program, until a signal asks to stop. A signal only ends the program, so that nothing here is left half done."""
+    asked_to_stop: bool = False
+    program: subprocess.Popen = None
+
+    def listen(self):
+        """From now on signals ask to stop. One that was ignored, as 'nohup' has it, stays so."""
+        for number in (signal.SIGINT, signal.SIGTERM, signal.SIGHUP):
+            if signal.getsignal(number) != signal.SIG_IGN:
+                signal.signal(number, self.stop)
+
+    def stop(self, number, frame):
+        self.asked_to_stop = True
+        if self.program:
+            self.program.kill()
+
+    def start(self, words, **streams):
+        """The program at work, in a session of its own: the interrupt key reaches this tool alone."""
+        self.program = subprocess.Popen([dossiers.program_path(), *words], start_new_session=True, preexec_fn=die_with_parent,
+                                        **streams)
+        if self.asked_to_stop:
+            self.program.kill()
+        return self.program
+
+    def status(self):
+        """Waits for the program: its status, where it wasn't stopped."""
+        status = self.program.wait()
+        self.program = None
+        if self.asked_to_stop and status < 0:
+            raise Stopped
+        return status
 
 
-def run_slice(folder, settings, number):
+def run_slice(runner, folder, settings, number):
     """Runs the program once and keeps its dossier."""
     word, place = ("solve", folder / "source.df") if number == 1 else ("resume", slice_place(folder, number - 1))
 
     def fill(file):
         with open(place, "rb") as text:
-            program = started([word, *settings.words], stdin=text, stdout=file)
-        try:
-            status = program.wait()
-        except BaseException:
-            program.kill()
-            program.wait()
-            raise
+            runner.start([word, *settings.words], stdin=text, stdout=file)
+        status = runner.status()
         if status not in (0, STATUS_STOPPED):
             raise dossiers.Refusal(status if status > 0 else dossiers.STATUS_WRITE_FAILED, told_by(file, word, status))
     write_whole(slice_place(folder, number), fill)
@@ -296,13 +321,17 @@ class Progress:
             print(file=sys.stderr)
 
 
-def run_slices(folder, settings, ends, most):
-    """Runs slices until the search has finished, or as many as are asked for."""
+def is_finished(ends):
+    return bool(ends) and ends[-1].word == dossiers.FINISHED
+
+
+def run_slices(runner, folder, settings, ends, most):
+    """Runs slices until the search has finished, or as many as are asked for, or until it is asked to stop."""
     progress = Progress(ends, time.monotonic(), sum(end.nodes for end in ends))
     count = 0
     try:
-        while not (ends and ends[-1].word == dossiers.FINISHED) and (most is None or count < most):
-            run_slice(folder, settings, len(ends) + 1)
+        while not (is_finished(ends) or runner.asked_to_stop or count == most):
+            run_slice(runner, folder, settings, len(ends) + 1)
             ends.append(end_of(slice_place(folder, len(ends) + 1)))
             count += 1
             progress.show()
@@ -312,30 +341,28 @@ def run_slices(folder, settings, ends, most):
 
 # The end
 
-def check(folder, count):
+def check(runner, folder, count):
     """What 'check' answers of all slices, one after another: its status and its text."""
-    program = started(["check"], stdin=subprocess.PIPE, stdout=subprocess.PIPE)
+    program = runner.start(["check"], stdin=subprocess.PIPE, stdout=subprocess.PIPE)
     try:
         for number in range(1, count + 1):
             with open(slice_place(folder, number), "rb") as text:
-                while piece := text.read(1 << 20):
-                    program.stdin.write(piece)
-        answer = program.communicate()[0].decode()
-    except BaseException:
-        program.kill()
-        program.wait()
-        raise
-    return program.returncode, answer
+                shutil.copyfileobj(text, program.stdin)
+        program.stdin.close()
+    except BrokenPipeError:
+        pass  # it ended before its input; its status says why
+    answer = program.stdout.read().decode()
+    return runner.status(), answer
 
 
-def tell_end(folder, settings, ends):
+def tell_end(runner, folder, settings, ends):
     designs = sum(end.designs for end in ends)
     dossiers.write_answer(f"finished designs {designs} nodes {sum(end.nodes for end in ends)} slices {len(ends)}\n")
     if settings.log:
-        status, answer = check(folder, len(ends))
+        status, answer = check(runner, folder, len(ends))
         dossiers.write_answer(answer)
         if status != 0:
-            raise dossiers.Refusal(status, f"the logs in {folder} aren't complete")
+            raise dossiers.Refusal(status if status > 0 else dossiers.STATUS_WRITE_FAILED, f"the logs in {folder} aren't complete")
         if answer != f"complete {designs}\n":
             raise dossiers.Refusal(dossiers.STATUS_REFUSED, f"the end lines in {folder} tell {designs} designs")
 
@@ -348,18 +375,16 @@ def search(request):
         begun = (request.folder / "settings").exists()
         settings = go_on(request) if begun else begin(request)
         ends = slices_of(request.folder)
-        run_slices(request.folder, settings, ends, request.slices)
-        if ends[-1].word != dossiers.FINISHED:
+        runner = Runner()
+        runner.listen()
+        run_slices(runner, request.folder, settings, ends, request.slices)
+        if not is_finished(ends):
             raise Stopped
-        tell_end(request.folder, settings, ends)
+        tell_end(runner, request.folder, settings, ends)
     except (Stopped, KeyboardInterrupt):
         raise dossiers.Refusal(STATUS_STOPPED, f"stopped; 'search {request.folder}' goes on") from None
     finally:
         handle.close()
-
-
-def stop(number, frame):
-    raise Stopped
 
 
 def main(words):
@@ -370,8 +395,6 @@ def main(words):
     if request is None:
         print(USAGE, file=sys.stderr)
         return dossiers.STATUS_USAGE
-    for number in (signal.SIGTERM, signal.SIGHUP):
-        signal.signal(number, stop)
     return dossiers.ended_with("search", lambda: search(request))
 
 
