@@ -9,10 +9,12 @@ mod blocks;
 mod develop;
 mod laws;
 mod pairs;
-mod table;
 #[cfg(test)]
-mod tests;
+mod plain_tests;
+mod table;
 mod verdict;
+#[cfg(test)]
+mod worked_tests;
 
 pub use develop::DevelopUnder;
 pub use laws::{
