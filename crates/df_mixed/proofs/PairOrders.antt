@@ -1,19 +1,11 @@
 -- Pairs of numbers: when two are the same, and their order.
 use Rattle.std.proofs.Common.{◌≡◌, ℕ, ◌<◌, Bool, true, false, ◌&&◌, ◌||◌, eqb, nat_lt, refl, sym, ap, ap₂, ◌∙◌, inl, inr, ◌⊎◌, ⊎_elim, arith, lt-ltb, le-ltb, ltb-true, eqb-true, eq-eqb}
-use Rattle.std.proofs.lemmas.Bool.{cases_lt, both_ways, false_from_ne_true}
+use Rattle.std.proofs.lemmas.Bool.{and_parts, and_from, cases_lt, both_ways, false_from_ne_true}
 use Rattle.df_lists.specs.Orders.{IsEquality, IsOrder}
 use Rattle.df_mixed.specs.PairOrbits.{in_order, is_earlier}
 
 abbrev pub same_pair : ℕ × ℕ → ℕ × ℕ → Bool
 same_pair a b = eqb a.0 b.0 && eqb a.1 b.1
-
-and_gives : (a b : Bool) → (a && b) ≡ true → (a ≡ true) × (b ≡ true)
-and_gives true b h = (refl, h)
-and_gives false b h = absurd (both_ways false refl h)
-
-and_from : (a b : Bool) → a ≡ true → b ≡ true → (a && b) ≡ true
-and_from true b h k = k
-and_from false b h k = absurd (both_ways false refl h)
 
 or_gives : (a b : Bool) → (a || b) ≡ true → (a ≡ true) ⊎ (b ≡ true)
 or_gives true b h = inl refl
@@ -26,7 +18,7 @@ or_from false b (inr h) = h
 
 pub pairs_equal : IsEquality same_pair
 pairs_equal = record {
-  same = λ x y h. let r = and_gives (eqb x.0 y.0) (eqb x.1 y.1) h in ap₂ (λ (a b : ℕ). (a, b)) (eqb-true x.0 y.0 r.0) (eqb-true x.1 y.1 r.1);
+  same = λ x y h. let r = and_parts (eqb x.0 y.0) (eqb x.1 y.1) h in ap₂ (λ (a b : ℕ). (a, b)) (eqb-true x.0 y.0 r.0) (eqb-true x.1 y.1 r.1);
   self = λ x. and_from (eqb x.0 x.0) (eqb x.1 x.1) (eq-eqb x.0 x.0 refl) (eq-eqb x.1 x.1 refl);
 }
 
@@ -36,7 +28,7 @@ IsLower a b = (a.0 < b.0) ⊎ ((a.0 ≡ b.0) × (a.1 < b.1))
 
 lower_gives : (a b : ℕ × ℕ) → is_earlier a b ≡ true → IsLower a b
 lower_gives a b h =
-    ⊎_elim (λ l. inl (ltb-true a.0 b.0 l)) (λ l. let r = and_gives (eqb a.0 b.0) (nat_lt a.1 b.1) l in inr (eqb-true a.0 b.0 r.0, ltb-true a.1 b.1 r.1))
+    ⊎_elim (λ l. inl (ltb-true a.0 b.0 l)) (λ l. let r = and_parts (eqb a.0 b.0) (nat_lt a.1 b.1) l in inr (eqb-true a.0 b.0 r.0, ltb-true a.1 b.1 r.1))
     (or_gives (nat_lt a.0 b.0) (eqb a.0 b.0 && nat_lt a.1 b.1) h)
 
 lower_from : (a b : ℕ × ℕ) → IsLower a b → is_earlier a b ≡ true

@@ -1,6 +1,6 @@
 -- What a verdict on a mixed family tells.
-use Rattle.std.proofs.Common.{◌≡◌, ◌↔◌, ℕ, Bool, true, false, not, eqb, find, position, length, get_or, Option, None, Some, refl, sym, ap, ◌∙◌, subst, eqb-true, eq-eqb}
-use Rattle.std.proofs.lemmas.Bool.{both_ways}
+use Rattle.std.proofs.Common.{◌≡◌, ◌↔◌, ℕ, true, false, not, find, position, length, get_or, Option, None, Some, refl, sym, ap, ◌∙◌, subst, eqb-true, eq-eqb}
+use Rattle.std.proofs.lemmas.Bool.{both_ways, not-false}
 use Rattle.df_lists.proofs.MemberLaws.{In-map, In-map_gives}
 use Rattle.df_lang.specs.Problems.{Stated, IsStated}
 use Rattle.df_lang.specs.Targets.{target}
@@ -27,20 +27,13 @@ use Rattle.df_mixed.proofs.PairBalance.{pair_balance}
 abbrev no_entry : PairEntry
 no_entry = record { pair = (0, 0); found = 0; stated = 0 }
 
-right : (a b : ℕ) → not (eqb a b) ≡ false → a ≡ b
-right a b h = go (eqb a b) refl h
-  where
-    go : (v : Bool) → eqb a b ≡ v → not v ≡ false → a ≡ b
-    go true e k = eqb-true a b e
-    go false e k = absurd (both_ways true k refl)
-
 -- a verdict accepts exactly where each row is as stated
 pub accepts_rows : (s : Stated) → (is_accepted (mixed_verdict s) ≡ true) ↔ AreFoundAsStated s (shifts_of s)
 accepts_rows s = go (position is_wrong (mixed_table s)) refl
   where
     go : (o : Option ℕ) → position is_wrong (mixed_table s) ≡ o → (is_accepted (mixed_verdict_at s o) ≡ true) ↔ AreFoundAsStated s (shifts_of s)
     go None e = (
-      λ h x i. right (found_at s (shifts_of s) x.0 x.1) (target s x.0 x.1) (none_at is_wrong (mixed_table s) e (pair_entry s (shifts_of s) x) (In-map (pair_entry s (shifts_of s)) (pair_rows s (shifts_of s)) x i)),
+      λ h x i. eqb-true (found_at s (shifts_of s) x.0 x.1) (target s x.0 x.1) (not-false _ (none_at is_wrong (mixed_table s) e (pair_entry s (shifts_of s) x) (In-map (pair_entry s (shifts_of s)) (pair_rows s (shifts_of s)) x i))),
       λ all. refl,
     )
     go (Some place) e = (
