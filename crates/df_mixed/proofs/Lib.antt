@@ -1,0 +1,9 @@
+pub mod CoverShifts
+pub mod FirstPlaces
+pub mod OriginLaws
+pub mod PairBalance
+pub mod PairOrders
+pub mod PairShifts
+pub mod TableLaws
+pub mod TargetShifts
+pub mod VerdictLaws

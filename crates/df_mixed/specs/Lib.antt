@@ -1,0 +1,5 @@
+pub mod MixedLaws
+pub mod MixedTables
+pub mod MixedVerdicts
+pub mod Origins
+pub mod PairOrbits
