@@ -49,10 +49,12 @@ void *realloc(void *old, size_t size) {
 }
 
 __attribute__((destructor)) static void tell(void) {
+    /* the file takes memory too */
+    unsigned long made = calls;
     const char *name = getenv("CALLS_TO");
     FILE *file = name ? fopen(name, "w") : 0;
     if (file) {
-        fprintf(file, "%lu", calls);
+        fprintf(file, "%lu", made);
         fclose(file);
     }
 }
