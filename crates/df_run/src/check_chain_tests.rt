@@ -9,18 +9,19 @@ use std::process::Abort;
 use std::test::Fail;
 
 // The search for the planes of order 2 with a budget of one node, of one more, and without another.
-const FIRST: &str = "from 0\nbranch 0\nend spent designs 0 nodes 1 next 1 0\n";
+pub(crate) const FIRST: &str = "from 0\nbranch 0\nend spent designs 0 nodes 1 next 1 0\n";
 
-const SECOND: &str = "from 1 0\nsettled\ndesign 0 1 3\nend spent designs 1 nodes 1 next 1\n";
+pub(crate) const SECOND: &str =
+    "from 1 0\nsettled\ndesign 0 1 3\nend spent designs 1 nodes 1 next 1\n";
 
-const LAST: &str =
+pub(crate) const LAST: &str =
     "from 1\nbranch 1\nsettled\ndesign 0 1 5\nunder 0\nend finished designs 1 nodes 2\n";
 
 // The same with two nodes at first.
 const TWO: &str = "from 0\nbranch 0\nsettled\ndesign 0 1 3\nend spent designs 1 nodes 2 next 1\n";
 
 // Dossiers of the planes of order 2, one after another.
-fn chain_of(alloc: Global, logs: &[&str]) -> Result<String, AllocError> {
+pub(crate) fn chain_of(alloc: Global, logs: &[&str]) -> Result<String, AllocError> {
     let mut text = String::new(alloc);
     for log in logs {
         text.push_str(HEAD)?;

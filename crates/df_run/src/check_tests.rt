@@ -58,7 +58,7 @@ const RESIDUE: &[&str] = &[
 ];
 
 // Lines as a text, each with its end.
-fn text_of(alloc: Global, lines: &[&str]) -> Result<String, AllocError> {
+pub(crate) fn text_of(alloc: Global, lines: &[&str]) -> Result<String, AllocError> {
     let mut text = String::new(alloc);
     for line in lines {
         text.push_str(line)?;
@@ -68,7 +68,7 @@ fn text_of(alloc: Global, lines: &[&str]) -> Result<String, AllocError> {
 }
 
 // Lines as a text, with others in place of the one of this number, from 1.
-fn edited(
+pub(crate) fn edited(
     alloc: Global,
     lines: &[&str],
     number: usize,

@@ -37,6 +37,16 @@ mod check_tests;
 #[cfg(test)]
 mod design_tests;
 #[cfg(test)]
+mod hostile_logs_tests;
+#[cfg(test)]
+mod hostile_prefix_tests;
+#[cfg(test)]
+mod hostile_reads_tests;
+#[cfg(test)]
+mod hostile_runs;
+#[cfg(test)]
+mod hostile_sinks_tests;
+#[cfg(test)]
 mod listing_tests;
 #[cfg(test)]
 mod matrix_tests;
